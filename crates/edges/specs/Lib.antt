@@ -1,0 +1,4 @@
+pub mod Edges
+pub mod Groups
+pub mod Sorts
+pub mod Tables
