@@ -1,2 +1,3 @@
 pub mod Scans
+pub mod Lists
 pub mod Bids

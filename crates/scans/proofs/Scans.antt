@@ -2,16 +2,13 @@
 use Prim.Native.Nat.{ℕ, zero, suc, max, _+_, _≤_, _<_}
 use mathlib.Core.Path.{_≡_, refl, sym, _∙_, subst, ap}
 use mathlib.Core.Bool.{Bool, true, false, cond, _&&_, _||_}
-use mathlib.Core.List.{List, [], _∷_, _++_}
 use mathlib.Core.Logic.{_⊎_, inl, inr}
 use native.Mathlib.Omega.{arith}
 use native.Mathlib.Numerals.{add-one}
-use lib.ListN.{length, getD, take}
 use Rattle.std.specs.declared.option.Option.{Option}
 use Rattle.std.specs.declared.option.Option.the-variants.{Some, None}
-use Rattle.std.proofs.shelf.Lists.{take-more}
 use Rattle.std.proofs.shelf.Tests.{cases-lt, cases-eq, or-cases, or-parts, and-parts, and-right, or-right}
-use Rattle.scans.specs.Scans.{largest, total, some, every, orElse, lowest, largestIn, someIn, everyIn}
+use Rattle.scans.specs.Scans.{largest, total, some, every, orElse, lowest}
 
 -- what holds of each number below n, and of n
 pub each-more : (P : ℕ → Type 0) (n : ℕ) → ((k : ℕ) → k < n → P k) → P n → (k : ℕ) → k < suc n → P k
@@ -135,12 +132,3 @@ both-none None false n e = (refl, refl)
 pub lowest-all : (p : ℕ → Bool) (n k : ℕ) → lowest p n ≡ None → k < n → p k ≡ false
 lowest-all p zero k e l = absurd (omega arith)
 lowest-all p (suc n) k e l = let h = both-none (lowest p n) (p n) n e in each-more (λ k. p k ≡ false) n (λ k i. lowest-all p n k (h .0) i) (h .1) k l
-
--- ---- a loop over a list
-module _ {X : Type 0} where
-  pub largestIn-push : (f : X → ℕ) (l : List X) (x : X) → largestIn f (l ++ x ∷ []) ≡ max (largestIn f l) (f x)
-  largestIn-push f [] x = omega arith
-  largestIn-push f (y ∷ l) x = omega (arith, largestIn-push f l x)
-
-  pub largestIn-more : (f : X → ℕ) (xs : List X) (i : ℕ) (d : X) → i < length xs → largestIn f (take (i + 1) xs) ≡ max (largestIn f (take i xs)) (f (getD xs i d))
-  largestIn-more f xs i d l = ap (largestIn f) (take-more xs i d l) ∙ largestIn-push f (take i xs) (getD xs i d)
