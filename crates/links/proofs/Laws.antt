@@ -1,9 +1,10 @@
--- A layer over a lawful link is a lawful link.
+-- Rates and matrices are lawful links, and a layer over a lawful link is one.
 use Prim.Native.Nat.{ℕ, _+_, _-_, _*_, _/_, _^_, _<_, _≤_}
+use mathlib.Core.List.{List}
 use mathlib.Core.Path.{_≡_, ap}
 use native.Mathlib.Nat.{lt-div-mul-add, le-div-iff-mul-le, mul-le-mul-right, div-mul-le-self, mul-mod-left}
 use native.Mathlib.Omega.{arith}
-use Rattle.links.specs.Links.{Arrives, FirstMultiple, Lawful, capped, packing, raised, slot}
+use Rattle.links.specs.Links.{Arrives, FirstMultiple, Lawful, capped, entry, matrix, packing, raised, rate, slot}
 
 pub raised-first : (s t : ℕ) → 0 < s → FirstMultiple s t (raised s t)
 raised-first s t h = record {
@@ -18,6 +19,22 @@ raised-monotone s t u h le =
 
 capped-twice : (t : ℕ) → capped t ≡ capped (capped t)
 capped-twice t = omega arith
+
+pub rate-lawful : (base each : ℕ) → Lawful (rate base each)
+rate-lawful base each = record {
+  after = λ t a b m. omega arith;
+  ceiling = λ t a b m. omega arith;
+  monotone = λ t u a b m le. omega arith;
+  capped-asks = λ t a b m. ap (λ (n : ℕ). capped (n + base + each * m)) (capped-twice t);
+}
+
+pub matrix-lawful : (entries : List ℕ) → Lawful (matrix entries)
+matrix-lawful entries = record {
+  after = λ t a b m. omega arith;
+  ceiling = λ t a b m. omega arith;
+  monotone = λ t u a b m le. omega arith;
+  capped-asks = λ t a b m. ap (λ (n : ℕ). capped (n + entry entries a b)) (capped-twice t);
+}
 
 pub slot-lawful : (period : ℕ) (below : Arrives) → 0 < period → Lawful below → Lawful (slot period below)
 slot-lawful period below h ok = record {

@@ -1,2 +1,3 @@
-pub mod Links
+pub mod Chosen
 pub mod Limits
+pub mod Links

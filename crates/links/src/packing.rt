@@ -1,8 +1,8 @@
 // A link that waits before it asks the link below, and after the arrival there.
 ghost use mathlib.Core.Path.{_≡_};
-ghost use Prim.Native.Nat.{_^_, _≤_};
+ghost use Prim.Native.Nat.{_+_, _^_, _≤_};
 ghost use Rattle.links.specs.Limits.{Made, PackingOutside};
-ghost use Rattle.links.specs.Links.{packing};
+ghost use Rattle.links.specs.Links.{capped, packing};
 use crate::CEILING;
 use crate::Link;
 use crate::fault::LinkFault;
@@ -27,6 +27,20 @@ impl Handling {
         }
         Ok(Handling { pack, unpack })
     }
+
+    // The tick at which what departs is packed.
+    pub(crate) fn packed(&self, departure: u64) -> u64
+        ensures { λ r. ⌜ r ≡ capped (capped departure + now (self .entry) .pack) ⌝ }
+    {
+        (departure.min(CEILING) + self.pack).min(CEILING)
+    }
+
+    // The tick at which what arrives is unpacked.
+    pub(crate) fn unpacked(&self, arrival: u64) -> u64
+        ensures { λ r. ⌜ r ≡ capped (capped arrival + now (self .entry) .unpack) ⌝ }
+    {
+        (arrival.min(CEILING) + self.unpack).min(CEILING)
+    }
 }
 
 #[derive(Clone, Copy, Drop)]
@@ -48,8 +62,8 @@ pub impl<L: Link> Link for Packing<L> as PackingLink {
     ghost arrives = { λ l. packing (l .handling .pack) (l .handling .unpack) (L·Link .arrives (l .below)) };
 
     fn arrival(&self, departure: u64, from: usize, to: usize, amount: u32) -> u64 {
-        let packed = (departure.min(CEILING) + self.handling.pack).min(CEILING);
+        let packed = self.handling.packed(departure);
         let there = self.below.arrival(packed, from, to, amount);
-        (there + self.handling.unpack).min(CEILING)
+        self.handling.unpacked(there)
     }
 }
