@@ -3,11 +3,13 @@ ghost use mathlib.Core.Path.{_≡_};
 ghost use Rattle.links.specs.Chosen.{Piled, chosen};
 ghost use Rattle.links.specs.Limits.{Made, MatrixOutside, PackingOutside, RateOutside, SlotOutside};
 ghost use Rattle.links.specs.Links.{matrix, packing, rate, slot};
+ghost use Rattle.std.specs.Vec.{made};
 ghost use Rattle.links.specs.declared.any.PileFault.the-variants.{Limit, Memory};
 
 use crate::CEILING;
 use crate::Link;
 use crate::fault::LinkFault;
+use crate::fault::LinkFaultDebug;
 use crate::matrix::Matrix;
 use crate::matrix::MatrixLink;
 use crate::packing::Handling;
@@ -58,6 +60,28 @@ impl AnyLink {
         }
     }
 
+    fn copied(&self) -> Result<AnyLink, AllocError>
+        ensures { λ r. ⌜ made r (λ l. chosen l ≡ chosen (now (self .entry))) ⌝ }
+    {
+        match self {
+            AnyLink::Rated(link) => Ok(AnyLink::Rated(*link)),
+            AnyLink::Table(link) => {
+                let link = Box::new(Box::allocator(link), **link)?;
+                Ok(AnyLink::Table(link))
+            }
+            AnyLink::Slotted(period, below) => {
+                let copy = below.copied()?;
+                let below = Box::new(Box::allocator(below), copy)?;
+                Ok(AnyLink::Slotted(*period, below))
+            }
+            AnyLink::Packed(handling, below) => {
+                let copy = below.copied()?;
+                let below = Box::new(Box::allocator(below), copy)?;
+                Ok(AnyLink::Packed(*handling, below))
+            }
+        }
+    }
+
     pub fn rate(base: u64, each: u64) -> Result<AnyLink, LinkFault>
         ensures { λ r. ⌜ Made (RateOutside base each) (λ l. chosen l ≡ rate base each) r ⌝ }
     {
@@ -100,5 +124,14 @@ pub impl Link for AnyLink as AnyLinkLink {
 
     fn arrival(&self, departure: u64, from: usize, to: usize, amount: u32) -> u64 {
         self.answer(departure, from, to, amount)
+    }
+}
+
+// A clone has the same meaning.
+pub impl Clone for AnyLink as AnyLinkClone {
+    ghost clones = { λ l r. chosen r ≡ chosen l };
+
+    fn clone(&self) -> Result<AnyLink, AllocError> {
+        self.copied()
     }
 }

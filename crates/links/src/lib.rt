@@ -10,6 +10,7 @@ mod rate;
 mod slot;
 
 pub use any::AnyLink;
+pub use any::AnyLinkClone;
 pub use any::AnyLinkLink;
 pub use any::PileFault;
 pub use any::PileFaultFromLimit;
