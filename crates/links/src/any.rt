@@ -5,7 +5,6 @@ ghost use Rattle.links.specs.Limits.{Made, MatrixOutside, PackingOutside, Rate
 ghost use Rattle.links.specs.Links.{matrix, packing, rate, slot};
 ghost use Rattle.std.specs.Vec.{made};
 ghost use Rattle.links.specs.declared.any.PileFault.the-variants.{Limit, Memory};
-
 use crate::CEILING;
 use crate::Link;
 use crate::fault::LinkFault;
@@ -108,7 +107,12 @@ impl AnyLink {
         }
     }
 
-    pub fn packing(heap: Global, pack: u64, unpack: u64, below: AnyLink) -> Result<AnyLink, PileFault>
+    pub fn packing(
+        heap: Global,
+        pack: u64,
+        unpack: u64,
+        below: AnyLink,
+    ) -> Result<AnyLink, PileFault>
         ensures { λ r. ⌜ Piled (PackingOutside pack unpack) (λ l. chosen l ≡ packing pack unpack (chosen below)) r ⌝ }
     {
         let handling = Handling::new(pack, unpack)?;
