@@ -1,0 +1,3 @@
+pub mod Chosen
+pub mod Limits
+pub mod Links
