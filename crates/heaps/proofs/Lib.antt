@@ -1,0 +1,4 @@
+pub mod Drains
+pub mod Inserts
+pub mod Orders
+pub mod Sifts
