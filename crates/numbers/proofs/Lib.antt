@@ -1,0 +1,4 @@
+pub mod Groups
+pub mod Laid
+pub mod Spelt
+pub mod Texts
