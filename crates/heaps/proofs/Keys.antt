@@ -37,13 +37,13 @@ rest x y = lower (x .worker) (y .worker) (ltb (x .task) (y .task))
 
 pub above-total : TotalOrder above
 above-total = record {
-      one-way = λ x y. lower-one-way (x .start) (y .start) (rest x y) (rest y x)
-        (lower-one-way (x .worker) (y .worker) _ _ (last-one-way (x .task) (y .task)));
-      chain = λ x y z. lower-chain (x .start) (y .start) (z .start) (rest x y) (rest y z) (rest x z)
-        (lower-chain (x .worker) (y .worker) (z .worker) _ _ _ (last-chain (x .task) (y .task) (z .task)));
-      same = λ x y p q.
-        let starts = lower-same (x .start) (y .start) (rest x y) (rest y x) p q in
-        let workers = lower-same (x .worker) (y .worker) _ _ (starts .1) (starts .2) in
-        let tasks = last-same (x .task) (y .task) (workers .1) (workers .2) in
-        λ i. record { start = starts .0 i; worker = workers .0 i; task = tasks i };
-    }
+  one-way = λ x y. lower-one-way (x .start) (y .start) (rest x y) (rest y x)
+      (lower-one-way (x .worker) (y .worker) _ _ (last-one-way (x .task) (y .task)));
+  chain = λ x y z. lower-chain (x .start) (y .start) (z .start) (rest x y) (rest y z) (rest x z)
+      (lower-chain (x .worker) (y .worker) (z .worker) _ _ _ (last-chain (x .task) (y .task) (z .task)));
+  same = λ x y p q.
+      let starts = lower-same (x .start) (y .start) (rest x y) (rest y x) p q in
+      let workers = lower-same (x .worker) (y .worker) _ _ (starts .1) (starts .2) in
+      let tasks = last-same (x .task) (y .task) (workers .1) (workers .2) in
+      λ i. record { start = starts .0 i; worker = workers .0 i; task = tasks i };
+}

@@ -1,7 +1,4 @@
 // The two kinds of entry that wait in a heap, each with its order.
-ghost use mathlib.Core.Path.{_≡_};
-ghost use mathlib.Core.Bool.{Bool, true, false, _||_, _&&_};
-ghost use lib.Dec.{ltb, eqb};
 ghost use Rattle.heaps.specs.Entries.{sooner, above};
 use crate::order::Ordered;
 

@@ -1,6 +1,4 @@
 // The refusal of a full heap.
-ghost use mathlib.Core.Path.{_≡_};
-ghost use Rattle.faults.specs.declared.Fault.{Fault};
 ghost use Rattle.heaps.specs.Faults.{fullTells};
 use faults::Fault;
 use faults::Refusal;
