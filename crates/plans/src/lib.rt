@@ -1,0 +1,7 @@
+// Plans: a row for each task, and the five rules that a plan keeps.
+pub mod fault;
+pub mod types;
+
+pub use fault::PlanFault;
+pub use types::Limits;
+pub use types::Row;
