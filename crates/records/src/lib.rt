@@ -1,2 +1,0 @@
-// The records of a file.
-pub mod fault;
