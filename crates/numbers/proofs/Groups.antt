@@ -116,6 +116,17 @@ writes (suc k) (suc n) first (b ∷ bs) v m l h e = ⊎-elim
     (rw (u .4, add-one (u .1), groups-more n v w, q, r) (ap (λ x. b ∷ x) (i .0)), λ _. omega arith))
     (cases-lt b 128)
 
+-- a number that is read ends before the list does
+pub front-fits : (left : ℕ) (first : Bool) (bs : List ℕ) (v n : ℕ) → decode left first bs ≡ is v n → n ≤ length bs
+front-fits zero first bs v n e = absurd (let z : _≡_ {A = ℕ} 0 1 = cc in omega arith)
+front-fits (suc k) first [] v n e = absurd (let z : _≡_ {A = ℕ} 0 1 = cc in omega arith)
+front-fits (suc k) first (b ∷ bs) v n e = ⊎-elim
+    (λ l. omega (arith, un-last first b v n (sym (cond-true _ _ _ (lt-ltb b 128 l)) ∙ e) .1))
+    (λ l.
+    let u = un-more (b - 128) (decode k false bs) v n (sym (cond-false _ _ _ (le-ltb b 128 l)) ∙ e) in
+    omega (arith, u .4, front-fits k false bs (u .0) (u .1) (u .2)))
+    (cases-lt b 128)
+
 -- what stands where a number was read
 pub un-placed : (len start at : ℕ) (f : Front) (v next : ℕ) → placed len start at f ≡ Ok (v, next) → (n : ℕ) × (f ≡ is v n) × (next ≡ at + n)
 un-placed len start at (is x k) v next e =
