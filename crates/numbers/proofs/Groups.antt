@@ -1,5 +1,5 @@
 -- A number's groups, written and read back.
-use mathlib.Core.Path.{_≡_, refl, sym, ap, subst, _∙_}
+use mathlib.Core.Path.{_≡_, refl, sym, ap, _∙_}
 use mathlib.Core.Bool.{Bool, true, false, cond, not, _&&_}
 use mathlib.Core.Logic.{⊎-elim}
 use mathlib.Core.List.{List, [], _∷_, _++_}
@@ -16,7 +16,7 @@ use Rattle.std.specs.declared.result.Result.{Result}
 use Rattle.std.specs.declared.result.Result.the-variants.{Ok, Err}
 use Rattle.numbers.specs.declared.fault.NumberFault.{NumberFault}
 use Rattle.numbers.specs.declared.fault.NumberFault.the-variants.{Truncated, Malformed}
-use Rattle.numbers.specs.Numbers.{groups, coded, Front, is, short, bad, more, last, decode, placed, groupsAt, numberAt}
+use Rattle.numbers.specs.Numbers.{groups, coded, Front, is, short, bad, more, last, decode, placed, groupsAt}
 
 -- every byte is below 256, as those of a slice are
 abbrev pub Bytes : List ℕ → Type 0

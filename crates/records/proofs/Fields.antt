@@ -1,19 +1,16 @@
 -- Numbers within limits: those that stand in a file are read, and those that are read stand there.
-use mathlib.Core.Path.{_≡_, refl, sym, ap, subst, _∙_}
-use mathlib.Core.Bool.{Bool, true, false, cond, _||_}
+use mathlib.Core.Path.{_≡_, refl, ap, subst, _∙_}
+use mathlib.Core.Bool.{Bool, true, false, cond}
 use mathlib.Core.List.{List, _++_}
 use Prim.Native.Nat.{ℕ, _+_, _^_, _<_, _≤_}
 use native.Mathlib.Omega.{arith}
-use lib.Dec.{ltb}
 use lib.ListN.{length, drop}
 use Rattle.std.proofs.shelf.Tests.{le-ltb, ltb-false, or-from, or-parts, cond-false}
 use Rattle.std.specs.declared.result.Result.{Result}
 use Rattle.std.specs.declared.result.Result.the-variants.{Ok, Err}
-use Rattle.numbers.specs.declared.fault.NumberFault.{NumberFault}
 use Rattle.numbers.specs.Numbers.{numberAt, coded}
 use Rattle.numbers.proofs.Groups.{Bytes}
 use Rattle.numbers.proofs.Laid.{number-at, un-number, number-long}
-use Rattle.records.specs.declared.fault.RecordFault.{RecordFault}
 use Rattle.records.specs.declared.fault.RecordFault.the-variants.{InNumber}
 use Rattle.records.specs.Fields.{andThen, mapErr, plainAt, limited, fieldAt}
 

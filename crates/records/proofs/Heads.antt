@@ -1,7 +1,7 @@
 -- Heads: those that stand at the start of a file are read, and those that are read stand there.
-use mathlib.Core.Path.{_≡_, refl, sym, ap, subst, _∙_}
+use mathlib.Core.Path.{_≡_, sym, ap, subst, _∙_}
 use mathlib.Core.List.{List, _++_, append-assoc}
-use Prim.Native.Nat.{ℕ, _+_, _<_, _≤_}
+use Prim.Native.Nat.{ℕ, _+_}
 use native.Mathlib.Omega.{arith}
 use lib.ListN.{length, drop, length-append}
 use Rattle.std.specs.Vec.{made}
@@ -12,8 +12,8 @@ use Rattle.numbers.proofs.Groups.{Bytes}
 use Rattle.numbers.proofs.Laid.{past}
 use Rattle.records.specs.declared.fault.RecordFault.{RecordFault}
 use Rattle.records.specs.declared.types.Head.{Head}
-use Rattle.records.specs.Fields.{andThen, fieldAt}
-use Rattle.records.specs.Heads.{headOf, headBytes, headAt, Opens}
+use Rattle.records.specs.Fields.{fieldAt}
+use Rattle.records.specs.Heads.{headOf, headAt, Opens}
 use Rattle.records.proofs.Fields.{ok-same, un-then, field-at, un-field}
 
 pub head-at : (file : List ℕ) (h : Head) → Opens file h → headAt file ≡ Ok h

@@ -3,20 +3,18 @@ use mathlib.Core.Path.{_≡_, refl, sym, ap, subst, _∙_}
 use mathlib.Core.Bool.{Bool, true, false, cond, _||_}
 use mathlib.Core.Logic.{_⊎_, inl, inr, ⊎-elim}
 use mathlib.Core.List.{List, [], _∷_, _++_}
-use Prim.Native.Nat.{ℕ, zero, suc, _+_, _-_, _^_, _<_, _≤_}
+use Prim.Native.Nat.{ℕ, zero, suc, _+_, _-_, _<_, _≤_}
 use native.Mathlib.Omega.{arith}
 use lib.Dec.{ltb}
-use lib.ListN.{length, drop, take, getD, length-append}
+use lib.ListN.{length, drop, take, length-append}
 use Rattle.std.proofs.shelf.Lists.{drop-drop, length-drop, take-at, take-append-drop, length-take-le}
 use Rattle.std.proofs.shelf.Tests.{le-ltb, ltb-false, or-from, or-parts, cond-false}
 use Rattle.std.specs.declared.option.Option.{Option}
 use Rattle.std.specs.declared.option.Option.the-variants.{Some, None}
-use Rattle.std.specs.declared.result.Result.{Result}
-use Rattle.std.specs.declared.result.Result.the-variants.{Ok, Err}
+use Rattle.std.specs.declared.result.Result.the-variants.{Ok}
 use Rattle.numbers.specs.Numbers.{coded}
 use Rattle.numbers.proofs.Groups.{Bytes}
 use Rattle.numbers.proofs.Laid.{past}
-use Rattle.records.specs.declared.fault.RecordFault.{RecordFault}
 use Rattle.records.specs.Fields.{andThen, fieldAt}
 use Rattle.records.specs.Names.{Printable, outside, judged, wholeAt, nameAt}
 use Rattle.records.proofs.Fields.{ok-same, un-then, un-refused, field-at, un-field}

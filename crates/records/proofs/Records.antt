@@ -1,13 +1,12 @@
 -- Records: those that stand in a file are read, and those that are read stand there.
 use mathlib.Core.Path.{_≡_, refl, sym, ap, subst, _∙_}
-use mathlib.Core.Bool.{Bool, true, false, cond, _||_}
-use mathlib.Core.List.{List, [], _∷_, _++_, append-assoc}
+use mathlib.Core.Bool.{_||_}
+use mathlib.Core.List.{List, _++_, append-assoc}
 use Prim.Native.Nat.{ℕ, _+_, _-_, _^_, _<_, _≤_}
 use native.Mathlib.Nat.{add-zero}
 use native.Mathlib.Omega.{arith}
 use lib.Dec.{leb, ltb, eqb}
 use lib.ListN.{length, drop, length-append}
-use Rattle.std.proofs.shelf.Lists.{drop-all}
 use Rattle.std.proofs.shelf.Tests.{lt-ltb, le-ltb, lt-leb, ne-eqb, leb-false, eqb-false, ltb-true, ltb-false, or-from, or-parts, cond-true, cond-false, cond-both}
 use Rattle.std.specs.Vec.{made}
 use Rattle.std.specs.declared.result.Result.{Result}
@@ -21,7 +20,7 @@ use Rattle.records.specs.declared.fault.Counted.{Counted}
 use Rattle.records.specs.declared.types.Head.{Head}
 use Rattle.records.specs.declared.types.Record.{Record}
 use Rattle.records.specs.Faults.{countedBy}
-use Rattle.records.specs.Fields.{andThen, plainAt, fieldAt}
+use Rattle.records.specs.Fields.{plainAt, fieldAt}
 use Rattle.records.specs.Heads.{Few}
 use Rattle.records.specs.Names.{nameAt}
 use Rattle.records.specs.Records.{Item, task, edge, end, TaskFits, EdgeFits, taskBytes, edgeBytes, Holds, seen, recordSeen, taskAt, edgeAt, endAt, recordAt}
