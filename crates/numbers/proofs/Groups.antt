@@ -1,5 +1,5 @@
 -- A number's groups, written and read back.
-use mathlib.Core.Path.{_≡_, refl, sym, ap, subst, _∙_}
+use mathlib.Core.Path.{_≡_, refl, sym, ap, _∙_}
 use mathlib.Core.Bool.{Bool, true, false, cond, not, _&&_}
 use mathlib.Core.Logic.{⊎-elim}
 use mathlib.Core.List.{List, [], _∷_, _++_}
@@ -16,7 +16,7 @@ use Rattle.std.specs.declared.result.Result.{Result}
 use Rattle.std.specs.declared.result.Result.the-variants.{Ok, Err}
 use Rattle.numbers.specs.declared.fault.NumberFault.{NumberFault}
 use Rattle.numbers.specs.declared.fault.NumberFault.the-variants.{Truncated, Malformed}
-use Rattle.numbers.specs.Numbers.{groups, coded, Front, is, short, bad, more, last, decode, placed, groupsAt, numberAt}
+use Rattle.numbers.specs.Numbers.{groups, coded, Front, is, short, bad, more, last, decode, placed, groupsAt}
 
 -- every byte is below 256, as those of a slice are
 abbrev pub Bytes : List ℕ → Type 0
@@ -114,6 +114,17 @@ writes (suc k) (suc n) first (b ∷ bs) v m l h e = ⊎-elim
     let q : v / 128 ≡ u .0 = omega arith in
     let r : 128 + v % 128 ≡ b = omega arith in
     (rw (u .4, add-one (u .1), groups-more n v w, q, r) (ap (λ x. b ∷ x) (i .0)), λ _. omega arith))
+    (cases-lt b 128)
+
+-- a number that is read ends before the list does
+pub front-fits : (left : ℕ) (first : Bool) (bs : List ℕ) (v n : ℕ) → decode left first bs ≡ is v n → n ≤ length bs
+front-fits zero first bs v n e = absurd (let z : _≡_ {A = ℕ} 0 1 = cc in omega arith)
+front-fits (suc k) first [] v n e = absurd (let z : _≡_ {A = ℕ} 0 1 = cc in omega arith)
+front-fits (suc k) first (b ∷ bs) v n e = ⊎-elim
+    (λ l. omega (arith, un-last first b v n (sym (cond-true _ _ _ (lt-ltb b 128 l)) ∙ e) .1))
+    (λ l.
+    let u = un-more (b - 128) (decode k false bs) v n (sym (cond-false _ _ _ (le-ltb b 128 l)) ∙ e) in
+    omega (arith, u .4, front-fits k false bs (u .0) (u .1) (u .2)))
     (cases-lt b 128)
 
 -- what stands where a number was read

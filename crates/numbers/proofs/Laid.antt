@@ -10,7 +10,7 @@ use Rattle.std.proofs.shelf.Lists.{drop-at, drop-drop, take-append-drop, length
 use Rattle.std.specs.declared.result.Result.the-variants.{Ok}
 use Rattle.numbers.specs.Numbers.{placed, decode, numberAt, coded}
 use Rattle.numbers.specs.Texts.{Puts}
-use Rattle.numbers.proofs.Groups.{Bytes, bytes-drop, reads, writes, un-placed}
+use Rattle.numbers.proofs.Groups.{Bytes, bytes-drop, reads, writes, un-placed, front-fits}
 
 -- the bytes of a number are read as it
 pub number-at : (file : List ℕ) (at v : ℕ) (rest : List ℕ) → v < 2 ^ 42 → drop at file ≡ coded v ++ rest → numberAt file at ≡ Ok (v, at + length (coded v))
@@ -53,3 +53,12 @@ un-number file at v next h e =
     let n : at + (next - at) ≡ next = omega (arith, number-moves file at v next e) in
     sym (take-append-drop (next - at) (drop at file)) ∙ ap (λ x. x ++ drop (next - at) (drop at file)) (number-back file at v next h e)
     ∙ ap (λ x. coded v ++ x) (drop-drop (next - at) at file ∙ ap (λ k. drop k file) n)
+
+pub number-long : (file : List ℕ) (at v next : ℕ) → Bytes file → numberAt file at ≡ Ok (v, next) → next ≡ at + length (coded v)
+unfolding numberAt
+number-long file at v next h e =
+    let u = un-placed (length file) at at (decode 6 true (drop at file)) v next e in
+    let n : next - at ≡ u .0 = omega arith in
+    let l : length (take (u .0) (drop at file)) ≡ u .0 = length-take-le (u .0) (drop at file) (front-fits 6 true (drop at file) v (u .0) (u .1)) in
+    let m : length (take (next - at) (drop at file)) ≡ length (coded v) = ap length (number-back file at v next h e) in
+    omega (arith, u .2, l, rw n at m)

@@ -1,6 +1,6 @@
 -- The law of numbers: which bytes are read, and why others are not.
-use mathlib.Core.Path.{_≡_, refl, sym, ap, subst, _∙_}
-use mathlib.Core.Bool.{Bool, true, false, cond, not, _&&_}
+use mathlib.Core.Path.{_≡_, refl, sym, subst, _∙_}
+use mathlib.Core.Bool.{Bool, true, false, not, _&&_}
 use mathlib.Core.Logic.{_⊎_, inl, inr, ⊎-elim}
 use mathlib.Core.List.{List, [], _∷_}
 use Prim.Native.Nat.{ℕ, zero, suc, _+_, _-_, _*_, _/_, _%_, _^_, _<_, _≤_}
@@ -11,12 +11,8 @@ use lib.Dec.{eqb, ltb}
 use lib.ListN.{length, drop, take, getD}
 use Rattle.std.proofs.shelf.Lists.{getD-drop, length-drop}
 use Rattle.std.proofs.shelf.Tests.{false≢true, ltb-true, ltb-false, ne-eqb, and-left, cond-false, cond-both, cases-lt}
-use Rattle.std.specs.declared.result.Result.{Result}
-use Rattle.std.specs.declared.result.Result.the-variants.{Ok, Err}
-use Rattle.numbers.specs.declared.fault.NumberFault.{NumberFault}
-use Rattle.numbers.specs.declared.fault.NumberFault.the-variants.{Truncated, Malformed}
 use Rattle.numbers.specs.Numbers.{coded, Front, is, short, bad, more, last, decode, placed, numberAt}
-use Rattle.numbers.specs.Spelling.{Spells, lone, then, Announce, Unread, ended, overlong, needless, Told}
+use Rattle.numbers.specs.Spelling.{Spells, lone, then, Announce, ended, overlong, needless, Told}
 use Rattle.numbers.proofs.Groups.{Bytes, bytes-drop, coded-one, coded-more}
 
 -- ---- the bytes of a value spell it

@@ -5,7 +5,7 @@ use mathlib.Core.List.{List, [], _∷_, _++_}
 use Prim.Native.Nat.{ℕ, suc, _+_, _-_, _≤_, _<_, _/_, _%_, _^_, min}
 use native.Mathlib.Nat.{add-zero, zero-add}
 use native.Mathlib.Omega.{arith}
-use lib.ListN.{length, set, drop, take, getD, length-append}
+use lib.ListN.{length, set, take, getD, length-append}
 use lib.Seq.{sets, sets-eq, length-sets}
 use Rattle.std.specs.Joined.{joined}
 use Rattle.std.specs.Written.{decimal}

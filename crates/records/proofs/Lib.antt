@@ -1,0 +1,4 @@
+pub mod Fields
+pub mod Heads
+pub mod Names
+pub mod Records
