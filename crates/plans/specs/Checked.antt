@@ -74,3 +74,8 @@ pub data Denied (rows : ℕ) (j : Job) : PlanFault → Type 0 where
 abbrev pub Told : ℕ → Job → Result ℕ PlanFault → Type 0
 Told rows j (Ok n) = Allowed rows j × Rules j × (n ≡ latest j)
 Told rows j (Err e) = Denied rows j e
+
+-- a plan is accepted exactly when the limits and the rules hold, and then with its length
+pub record Accepts (rows : ℕ) (j : Job) (r : Result ℕ PlanFault) : Type 0 where
+  pub kept : Allowed rows j → Rules j → r ≡ Ok (latest j)
+  pub only : (n : ℕ) → r ≡ Ok n → Allowed rows j × Rules j × (n ≡ latest j)

@@ -15,6 +15,7 @@ pub record Job : Type 0 where
   pub memory : ℕ
   pub arrives : Arrives
 
+-- what is read past the end of a table
 abbrev pub noRow : Row
 noRow = record { worker = 0; start = 0 }
 
@@ -26,3 +27,11 @@ job g rows limits arr = record {
   workers = limits .workers;
   memory = limits .memory;
   arrives = arr }
+
+-- where no limit is asked for
+abbrev pub noLimits : Limits
+noLimits = record { workers = 0; memory = 0 }
+
+-- where no link is asked, by the numbers of the limits
+abbrev pub unlinked : TaskGraph → List Row → ℕ → ℕ → Job
+unlinked g rows workers memory = job g rows (record { workers = workers; memory = memory }) (λ t a b m. t)

@@ -4,6 +4,8 @@ use mathlib.Core.Path.{_≡_}
 use mathlib.Core.Bool.{cond}
 use mathlib.Core.Logic.{_⊎_}
 use lib.Dec.{eqb}
+use Rattle.std.specs.Options.{Cases}
+use Rattle.std.specs.declared.option.Option.{Option}
 use Rattle.scans.specs.Scans.{largest, total}
 use Rattle.plans.specs.Jobs.{Job}
 
@@ -33,6 +35,10 @@ reaches j k =
 abbrev pub Placed : Job → ℕ → Type 0
 Placed j t = j .worker t < j .workers
 
+-- of a task: its start is not above the ceiling
+abbrev pub Early : Job → ℕ → Type 0
+Early j t = j .start t ≤ 2 ^ 40
+
 -- rule 2, of a task: its end is not above the ceiling
 abbrev pub InTime : Job → ℕ → Type 0
 InTime j t = end j t ≤ 2 ^ 40
@@ -61,6 +67,10 @@ pub record Lowest (P : ℕ → Type 0) (n p : ℕ) : Type 0 where
   pub within : p < n
   pub fails : P p → ⊥
   pub below : Each P p
+
+-- r is that number, or none where P holds of each number below n
+abbrev pub Found : (ℕ → Type 0) → ℕ → Option ℕ → Type 0
+Found P n r = Cases r (Each P n) (Lowest P n)
 
 pub record Rules (j : Job) : Type 0 where
   pub placed : Each (Placed j) (j .graph .tasks)

@@ -1,0 +1,10 @@
+use Prim.Native.Nat.{ℕ, _<_}
+use mathlib.Core.Path.{_≡_}
+use mathlib.Core.List.{[]}
+use Rattle.graphs.specs.Model.{model}
+use Rattle.plans.specs.Jobs.{unlinked}
+use Rattle.plans.specs.Rules.{Apart}
+use Rattle.plans.proofs.rules.is_alone.Given as given
+
+abbrev pub Inv-loop-u : given.InvT-loop-u
+Inv-loop-u l = (u : ℕ) → u < l .u → (l .t ≡ u → ⊥) → Apart (unlinked (model (l .tasks) []) (l .rows) 0 0) (l .t) u
