@@ -50,6 +50,10 @@ Apart j t u = j .worker t ≡ j .worker u → (end j t ≤ j .start u) ⊎ (end 
 abbrev pub Alone : Job → ℕ → Type 0
 Alone j t = (u : ℕ) → u < j .graph .tasks → (t ≡ u → ⊥) → Apart j t u
 
+-- the same against the tasks after it alone
+abbrev pub AloneAhead : Job → ℕ → Type 0
+AloneAhead j t = (u : ℕ) → t < u → u < j .graph .tasks → Apart j t u
+
 -- rule 4, of a worker: the memory in use is at most its memory
 abbrev pub Roomy : Job → ℕ → Type 0
 Roomy j w = used j w ≤ j .memory
