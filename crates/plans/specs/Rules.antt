@@ -28,8 +28,8 @@ used j w = total (sizeOn j w) (j .graph .tasks)
 unfoldable pub reaches : Job → ℕ → ℕ
 reaches j k =
     cond (eqb (j .worker (j .graph .from k)) (j .worker (j .graph .to k)))
-      (end j (j .graph .from k))
-      (j .arrives (end j (j .graph .from k)) (j .worker (j .graph .from k)) (j .worker (j .graph .to k)) (j .graph .amount k))
+    (end j (j .graph .from k))
+    (j .arrives (end j (j .graph .from k)) (j .worker (j .graph .from k)) (j .worker (j .graph .to k)) (j .graph .amount k))
 
 -- rule 1, of a task: its worker number is below the number of workers
 abbrev pub Placed : Job → ℕ → Type 0

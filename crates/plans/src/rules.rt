@@ -84,7 +84,11 @@ fn reach_of<L: Link>(graph: &Graph, rows: &[Row], link: &L, k: usize) -> u64
     let end = end_of(graph.tasks(), rows, edge.from);
     let from = row_of(rows, edge.from).worker;
     let to = row_of(rows, edge.to).worker;
-    if from == to { end } else { link.arrival(end, from, to, edge.amount) }
+    if from == to {
+        end
+    } else {
+        link.arrival(end, from, to, edge.amount)
+    }
 }
 
 // Rule 5: the first edge whose input comes after the start of its target.

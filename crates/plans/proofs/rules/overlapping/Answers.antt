@@ -20,8 +20,9 @@ turned j t u h e = elim (h (sym e)) [ inl a ↦ inr a | inr b ↦ inl b ]
 -- a task before t that shares no tick shares none with t
 alone-both : (j : Job) (t : ℕ) → t < j .graph .tasks → Each (Alone j) t → AloneAhead j t → Alone j t
 alone-both j t l below ahead u m ne = elim (cases-lt u t) [
-    inl a ↦ turned j u t (below u a t l (λ e. ne (sym e)))
-  | inr b ↦ ahead u (omega arith) m ]
+  | inl a ↦ turned j u t (below u a t l (λ e. ne (sym e)))
+  | inr b ↦ ahead u (omega arith) m
+]
 
 pub loop-t-again : need.loop-t-again
 loop-t-again c =
