@@ -1,0 +1,4 @@
+pub mod Shapes
+pub mod Turns
+pub mod Results
+pub mod Ways
