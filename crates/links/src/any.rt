@@ -18,6 +18,7 @@ use crate::slot::Period;
 use std::alloc::AllocError;
 use std::alloc::Global;
 
+// Layers keep their limits in their types, so every value is a lawful link.
 #[derive(Drop)]
 pub enum AnyLink {
     Rated(Rate),
