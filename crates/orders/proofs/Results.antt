@@ -3,16 +3,17 @@ use Prim.Native.Nat.{ℕ, zero, suc, _+_, _<_, _≤_}
 use mathlib.Core.Path.{_≡_, refl, sym, ap, _∙_, subst}
 use mathlib.Core.Bool.{Bool, true, false, cond, _&&_, _||_}
 use mathlib.Core.Logic.{inl, inr}
-use mathlib.Core.List.{List, [], _∷_}
+use mathlib.Core.List.{List, [], _∷_, _++_}
 use native.Mathlib.Omega.{arith}
 use lib.Dec.{eqb, ltb, leb}
-use lib.ListN.{length, getD}
+use lib.ListN.{length, getD, take}
 use Rattle.std.specs.shelf.Lists.{countBy}
 use Rattle.std.specs.declared.option.Option.the-variants.{None}
 use Rattle.std.proofs.shelf.Sums.{sumBy-cons}
 use Rattle.std.proofs.shelf.Tests.{cases-eq, cases-lt, cases-bool, eqb-true, and-left, leb-true, and-parts, or-from, and-from, or-left, or-right, lt-ltb, le-ltb, both-ways}
 use Rattle.scans.specs.Scans.{someIn, lowest, orElse}
 use Rattle.scans.proofs.Scans.{lowest-all}
+use Rattle.edges.proofs.Views.{whole}
 use Rattle.edges.specs.declared.edge.Edge.{Edge}
 use Rattle.edges.specs.Edges.{noEdge, Within}
 use Rattle.orders.specs.Orders.{stuck, Ordered}
@@ -95,3 +96,7 @@ all-ordered es n waits rank order tail long w was e =
     ranked = λ t tl. let p = was .shape .placed t (omega arith) (all t (omega arith)) in (omega (arith, p .0), p .1);
     places = λ j jl. let p = was .shape .filled j (omega arith) in (omega (arith, p .0), p .1);
     forward = λ k kl. was .forward k kl (let bl : getD es k noEdge .to < length waits = omega (arith, w k kl .1) in was .shape .placed (getD es k noEdge .to) bl (all (getD es k noEdge .to) bl) .0) }
+
+-- the same of the tables that hold these lists
+pub whole-ordered : (es : List Edge) (n : ℕ) (rank order more rest : List ℕ) (a b : ℕ) → length rank ≡ a → length order ≡ b → Ordered es n rank order → Ordered es n (take a (rank ++ more)) (take b (order ++ rest))
+whole-ordered es n rank order more rest a b p q o = rw (whole a rank more p, whole b order rest q) o
