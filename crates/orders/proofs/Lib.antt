@@ -2,3 +2,6 @@ pub mod Shapes
 pub mod Turns
 pub mod Results
 pub mod Ways
+pub mod Bits
+pub mod Joins
+pub mod Fresh

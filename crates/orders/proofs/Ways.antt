@@ -60,7 +60,7 @@ twice (suc n) g h =
       let t = twice n (λ k. without v (g k)) (λ k kl. without-lt v (g k) n (h k (omega arith)) (h (suc n) (omega arith)) (apart k (omega arith))) in
       (t .0, t .1, t .2, omega (arith, t .3), without-same v (g (t .0)) (g (t .1)) (apart (t .0) (omega (arith, t .2, t .3))) (apart (t .1) (omega (arith, t .3))) (t .4))) ]
 
-find-in : (p : Edge → Bool) (es : List Edge) → someIn p es ≡ true → (k : ℕ) × (k < length es) × (p (getD es k noEdge) ≡ true)
+pub find-in : (p : Edge → Bool) (es : List Edge) → someIn p es ≡ true → (k : ℕ) × (k < length es) × (p (getD es k noEdge) ≡ true)
 find-in p [] y = absurd (true≢false (sym y))
 find-in p (e ∷ es) y = elim (or-cases (p e) (someIn p es) y) [
     inl here ↦ (0, omega arith, here)

@@ -2,3 +2,5 @@ pub mod Orders
 pub mod Searches
 pub mod Answers
 pub mod Cycles
+pub mod Marks
+pub mod PairSets

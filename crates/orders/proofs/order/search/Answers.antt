@@ -1,22 +1,18 @@
 use native.Mathlib.Omega.{arith}
-use Prim.Native.Nat.{ℕ, _<_}
-use mathlib.Core.Path.{_≡_, refl, sym, ap, _∙_}
-use mathlib.Core.List.{List}
-use lib.ListN.{length, getD, drop, replicate}
-use Rattle.std.proofs.shelf.Lists.{length-replicate, getD-replicate}
+use mathlib.Core.Path.{refl, sym, _∙_}
+use lib.ListN.{length, drop}
+use Rattle.std.specs.Of.Vec.{vec-items}
 use Rattle.edges.specs.Tables.{listed}
+use Rattle.orders.proofs.Fresh.{all-same}
 use Rattle.orders.proofs.Results.{whole-ordered}
 use Rattle.orders.proofs.order.search.Needs as need
-
-all-same : (xs : List ℕ) (n v : ℕ) → xs ≡ replicate n v → (length xs ≡ n) × ((t : ℕ) → t < n → getD xs t 0 ≡ v)
-all-same xs n v e = (ap length e ∙ length-replicate n v, (λ t tl. ap (λ (ys : List ℕ). getD ys t 0) e ∙ getD-replicate n t v 0 tl))
 
 pub arrange-requires : need.arrange-requires
 arrange-requires c κs =
   let n = c .tasks-tasks .result in
-  let waits = all-same _ n 1 (c .deref-mut .ensures .value ∙ c .in-Continue-waits .ensures tt .exact (λ y e. e)) in
-  let rank = all-same _ n n (c .deref-mut-2 .ensures .value ∙ c .in-Continue-rank .ensures tt .exact (λ y e. e)) in
-  let order = all-same _ n 0 (c .deref-mut-3 .ensures .value ∙ c .in-Continue-order .ensures tt .exact (λ y e. e)) in
+  let waits = all-same (c .deref-mut .result .now) (vec-items (c .in-Continue-waits .waits)) n 1 (c .deref-mut .ensures .value) (c .in-Continue-waits .ensures tt .exact (λ y e. e)) in
+  let rank = all-same (c .deref-mut-2 .result .now) (vec-items (c .in-Continue-rank .rank)) n n (c .deref-mut-2 .ensures .value) (c .in-Continue-rank .ensures tt .exact (λ y e. e)) in
+  let order = all-same (c .deref-mut-3 .result .now) (vec-items (c .in-Continue-order .order)) n 0 (c .deref-mut-3 .ensures .value) (c .in-Continue-order .ensures tt .exact (λ y e. e)) in
   record {
     sized = waits .0 ∙ c .tasks-tasks .ensures;
     long = (rank .0 ∙ sym (waits .0), order .0 ∙ sym (waits .0));
