@@ -26,10 +26,12 @@ pow-more d j = ap (λ (n : ℕ). n / 2 ^ j % 2) (pow-add 2 (suc d) j) ∙ ap (λ
 -- bit j of the power k, for another j, is 0
 pow-other : (k j : ℕ) → (j ≡ k → ⊥) → 2 ^ k / 2 ^ j % 2 ≡ 0
 pow-other k j ne = elim (cases-order k j) [
-    inl e ↦ absurd (ne (sym e))
+  | inl e ↦ absurd (ne (sym e))
   | inr s ↦ elim s [
-      inl lt ↦ pow-less k j lt
-    | inr gt ↦ (let e : k ≡ suc (k - j - 1) + j = omega arith in ap (λ (n : ℕ). 2 ^ n / 2 ^ j % 2) e ∙ pow-more (k - j - 1) j) ] ]
+    | inl lt ↦ pow-less k j lt
+    | inr gt ↦ (let e : k ≡ suc (k - j - 1) + j = omega arith in ap (λ (n : ℕ). 2 ^ n / 2 ^ j % 2) e ∙ pow-more (k - j - 1) j)
+  ]
+]
 
 or-one : (a : ℕ) → a < 2 → bitOr a 1 ≡ 1
 or-one zero lt = or-zero-l 1
@@ -47,19 +49,21 @@ or-other x k j ne = or-at x k j ∙ ap (bitOr (x / 2 ^ j % 2)) (pow-other k j ne
 
 pub marks : (words : List ℕ) (p v : ℕ) → length words ≡ 4096 → p < 262144 → v ≡ bitOr (getD words (p / 64) 0) (2 ^ (p % 64)) → (q : ℕ) → marked (set words (p / 64) v) q ≡ (eqb q p || marked words q)
 marks words p v long pl is q =
-  let w = getD words (p / 64) 0 in
-  let inside : p / 64 < length words = omega (arith, div-below p 64 4096 (omega arith) (omega arith)) in
-  let at : (n : ℕ) → Bool = λ n. eqb (n / 2 ^ (q % 64) % 2) 1 in
-  elim (cases-eq (q / 64) (p / 64)) [
-    inl e ↦ (let here : getD (set words (p / 64) v) (q / 64) 0 ≡ bitOr w (2 ^ (p % 64)) = ap (λ (n : ℕ). getD (set words (p / 64) v) n 0) e ∙ getD-set-same words (p / 64) v 0 inside ∙ is in
-      elim (cases-eq (q % 64) (p % 64)) [
-        inl f ↦ (let same : q ≡ p = omega (arith, div-add-mod' q 64, div-add-mod' p 64) in
-          ap at here ∙ eq-eqb _ 1 (ap (λ (n : ℕ). bitOr w (2 ^ (p % 64)) / 2 ^ n % 2) f ∙ or-same w (p % 64)) ∙ sym (or-left (eqb q p) (marked words q) (eq-eqb q p same)))
-      | inr ne ↦ (let no′ = ne-eqb q p (λ s. ne (ap (λ (n : ℕ). n % 64) s)) in
-          let old : marked words q ≡ at w = ap (λ (n : ℕ). at (getD words n 0)) e in
-          ap at here ∙ ap (λ (n : ℕ). eqb n 1) (or-other w (p % 64) (q % 64) ne) ∙ sym old ∙ sym (ap (λ (b : Bool). b || marked words q) no′)) ])
-  | inr ne ↦ (let no′ = ne-eqb q p (λ s. ne (ap (λ (n : ℕ). n / 64) s)) in
-      ap at (getD-set-other words (p / 64) (q / 64) v 0 ne) ∙ sym (ap (λ (b : Bool). b || marked words q) no′)) ]
+    let w = getD words (p / 64) 0 in
+    let inside : p / 64 < length words = omega (arith, div-below p 64 4096 (omega arith) (omega arith)) in
+    let at : (n : ℕ) → Bool = λ n. eqb (n / 2 ^ (q % 64) % 2) 1 in
+    elim (cases-eq (q / 64) (p / 64)) [
+      | inl e ↦ (let here : getD (set words (p / 64) v) (q / 64) 0 ≡ bitOr w (2 ^ (p % 64)) = ap (λ (n : ℕ). getD (set words (p / 64) v) n 0) e ∙ getD-set-same words (p / 64) v 0 inside ∙ is in
+          elim (cases-eq (q % 64) (p % 64)) [
+            | inl f ↦ (let same : q ≡ p = omega (arith, div-add-mod' q 64, div-add-mod' p 64) in
+                ap at here ∙ eq-eqb _ 1 (ap (λ (n : ℕ). bitOr w (2 ^ (p % 64)) / 2 ^ n % 2) f ∙ or-same w (p % 64)) ∙ sym (or-left (eqb q p) (marked words q) (eq-eqb q p same)))
+            | inr ne ↦ (let no′ = ne-eqb q p (λ s. ne (ap (λ (n : ℕ). n % 64) s)) in
+                let old : marked words q ≡ at w = ap (λ (n : ℕ). at (getD words n 0)) e in
+                ap at here ∙ ap (λ (n : ℕ). eqb n 1) (or-other w (p % 64) (q % 64) ne) ∙ sym old ∙ sym (ap (λ (b : Bool). b || marked words q) no′))
+          ])
+      | inr ne ↦ (let no′ = ne-eqb q p (λ s. ne (ap (λ (n : ℕ). n / 64) s)) in
+          ap at (getD-set-other words (p / 64) (q / 64) v 0 ne) ∙ sym (ap (λ (b : Bool). b || marked words q) no′))
+    ]
 
 -- a table of zeros has no bit
 pub none-marked : (words : List ℕ) → ((k : ℕ) → getD words k 0 ≡ 0) → (p : ℕ) → marked words p ≡ false

@@ -4,3 +4,4 @@ pub mod Answers
 pub mod Cycles
 pub mod Marks
 pub mod PairSets
+pub mod Inputs

@@ -14,7 +14,13 @@ use edges::Edge;
 use edges::EdgeTable;
 
 // Task t waits for one thing less; where it waits for nothing more, it goes to the end of the order.
-fn settle(t: usize, waits: &mut [usize], rank: &mut [usize], order: &mut [usize], tail: usize) -> usize
+fn settle(
+    t: usize,
+    waits: &mut [usize],
+    rank: &mut [usize],
+    order: &mut [usize],
+    tail: usize,
+) -> usize
     requires task { ⌜ t < length (now waits) ⌝ }
     requires waiting { ⌜ 0 < getD (now waits) t 0 ⌝ }
     requires shape { ⌜ Shape (now waits) (now rank) (now order) tail ⌝ }
@@ -32,7 +38,13 @@ fn settle(t: usize, waits: &mut [usize], rank: &mut [usize], order: &mut [usize]
 }
 
 // The target of each of these edges waits for one thing less.
-fn release(outs: &[Edge], waits: &mut [usize], rank: &mut [usize], order: &mut [usize], tail: usize) -> usize
+fn release(
+    outs: &[Edge],
+    waits: &mut [usize],
+    rank: &mut [usize],
+    order: &mut [usize],
+    tail: usize,
+) -> usize
     requires under { ⌜ Under To (now outs) (length (now waits)) ⌝ }
     requires due { ⌜ ((t : ℕ) → t < length (now waits) → countTo (now outs) t ≤ getD (now waits) t 0) ⌝ }
     requires shape { ⌜ Shape (now waits) (now rank) (now order) tail ⌝ }
@@ -75,7 +87,13 @@ fn seed(edges: &[Edge], waits: &mut [usize], rank: &mut [usize], order: &mut [us
 }
 
 // Takes up each task of the order in turn.
-fn take_turns(table: &EdgeTable, waits: &mut [usize], rank: &mut [usize], order: &mut [usize], first: usize) -> usize
+fn take_turns(
+    table: &EdgeTable,
+    waits: &mut [usize],
+    rank: &mut [usize],
+    order: &mut [usize],
+    first: usize,
+) -> usize
     requires long { ⌜ length (now waits) ≡ now table .tasks ⌝ }
     requires going { ⌜ Going (listed (now table)) (now waits) (now rank) (now order) 0 first ⌝ }
     ensures { λ r. ⌜ Going (listed (now (table .entry))) (now (waits .exit)) (now (rank .exit)) (now (order .exit)) r r ⌝ }
@@ -103,7 +121,12 @@ fn first_waiting(waits: &[usize]) -> Option<usize>
 }
 
 // Puts the tasks in order, or answers the lowest that no order can have.
-pub(crate) fn arrange(table: &EdgeTable, waits: &mut [usize], rank: &mut [usize], order: &mut [usize]) -> Option<usize>
+pub(crate) fn arrange(
+    table: &EdgeTable,
+    waits: &mut [usize],
+    rank: &mut [usize],
+    order: &mut [usize],
+) -> Option<usize>
     requires sized { ⌜ length (now waits) ≡ now table .tasks ⌝ }
     requires long { ⌜ (length (now rank) ≡ length (now waits)) × (length (now order) ≡ length (now waits)) ⌝ }
     requires ones { ⌜ ((t : ℕ) → t < length (now waits) → getD (now waits) t 0 ≡ 1) ⌝ }

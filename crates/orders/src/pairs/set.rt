@@ -3,6 +3,7 @@ ghost use mathlib.Core.Bool.{false, _&&_, _||_};
 ghost use Prim.Native.Nat.{ℕ, _<_};
 ghost use lib.Dec.{eqb};
 ghost use Rattle.std.specs.Vec.{made};
+ghost use Rattle.orders.specs.Inputs.{FewInputs};
 ghost use Rattle.orders.specs.PairSets.{held, Reads};
 use crate::pairs::PairSet;
 use crate::pairs::marks::mark;
@@ -23,6 +24,7 @@ impl PairSet {
         ensures was { λ r. ⌜ r ≡ held (now (self .entry)) from to ⌝ }
         ensures puts { λ _. ⌜ ((p q : ℕ) → p < 512 → q < 512 → held (now (self .exit)) p q ≡ ((eqb p from && eqb q to) || held (now (self .entry)) p q)) ⌝ }
         ensures reads { λ r. ⌜ Reads (held (now (self .entry))) from to r (held (now (self .exit))) ⌝ }
+        ensures few { λ _. ⌜ FewInputs ⌝ }
     {
         if from >= 512 || to >= 512 {
             return false;

@@ -4,8 +4,9 @@ use Rattle.orders.proofs.order.order_tasks.Needs as need
 
 pub returns : need.returns
 returns c =
-  let table = c .args .table .now in
-  record {
-    answered = c .search .ensures;
-    stuck = stuck-law (listed table) (table .tasks) (table .within);
-    cycles = cycle-law (listed table) (table .tasks) (c .search .result) (table .within) (c .search .ensures) }
+    let table = c .args .table .now in
+    record {
+      answered = c .search .ensures;
+      stuck = stuck-law (listed table) (table .tasks) (table .within);
+      cycles = cycle-law (listed table) (table .tasks) (c .search .result) (table .within) (c .search .ensures);
+    }

@@ -13,8 +13,8 @@ loop-t-again c = below-more (λ k. isWaiting (c .args .waits .now) k ≡ false) 
 
 pub returns-then-waits-t-gt0 : need.returns-then-waits-t-gt0
 returns-then-waits-t-gt0 c =
-  let waits = c .args .waits .now in
-  sym (lowest-is (isWaiting waits) (length waits) (c .loop-t .t) (omega arith) (c .loop-t .inv) (lt-ltb 0 _ (c .if-waits-t-gt0 .taken)))
+    let waits = c .args .waits .now in
+    sym (lowest-is (isWaiting waits) (length waits) (c .loop-t .t) (omega arith) (c .loop-t .inv) (lt-ltb 0 _ (c .if-waits-t-gt0 .taken)))
 
 pub returns : need.returns
 returns c = let waits = c .args .waits .now in sym (lowest-none (isWaiting waits) (length waits) (λ k l. c .loop-t .inv k (omega arith)))

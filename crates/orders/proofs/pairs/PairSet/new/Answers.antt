@@ -7,5 +7,5 @@ use Rattle.orders.proofs.pairs.PairSet.new.Needs as need
 
 pub returns : need.returns
 returns c = λ p q.
-  let words = vec-items (c .in-Continue-words .words) in
-  joined-none words p q (none-marked words (all-zero words 4096 (c .in-Continue-words .ensures tt .exact (λ y e. e))) (p * 512 + q))
+    let words = vec-items (c .in-Continue-words .words) in
+    joined-none words p q (none-marked words (all-zero words 4096 (c .in-Continue-words .ensures tt .exact (λ y e. e))) (p * 512 + q))
