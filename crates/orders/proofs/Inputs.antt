@@ -1,7 +1,7 @@
 -- Inputs of a task that come from different tasks are no more than the tasks.
-use Prim.Native.Nat.{ℕ, zero, suc, _+_, _<_, _≤_}
+use Prim.Native.Nat.{ℕ, zero, suc, _<_, _≤_}
 use mathlib.Core.Path.{_≡_, refl, sym, ap, _∙_}
-use mathlib.Core.Bool.{Bool, true, false, cond}
+use mathlib.Core.Bool.{Bool, true, cond}
 use mathlib.Core.Logic.{inl, inr}
 use mathlib.Core.List.{List, [], _∷_}
 use native.Mathlib.Omega.{arith}
@@ -14,7 +14,7 @@ use Rattle.scans.specs.Scans.{total}
 use Rattle.scans.proofs.Scans.{total-under}
 use Rattle.edges.specs.declared.edge.Edge.{Edge}
 use Rattle.edges.specs.declared.edge.Side.the-variants.{From}
-use Rattle.edges.specs.Edges.{noEdge, endOn, share, into, outOf, Within}
+use Rattle.edges.specs.Edges.{noEdge, endOn, into, outOf, Within}
 use Rattle.edges.specs.Groups.{begin}
 use Rattle.edges.proofs.Groups.{begin-cons}
 use Rattle.orders.specs.PairSets.{Repeats}

@@ -1,13 +1,13 @@
 -- Pairs in a set: one pair put in, and what a reader of edges learns.
-use Prim.Native.Nat.{ℕ, zero, suc, _+_, _*_, _<_, _≤_}
+use Prim.Native.Nat.{ℕ, _+_, _*_, _<_}
 use mathlib.Core.Path.{_≡_, refl, sym, ap, _∙_, subst}
 use mathlib.Core.Bool.{Bool, true, false, _&&_, _||_}
 use mathlib.Core.Logic.{inl, inr}
 use mathlib.Core.List.{List, _++_}
 use native.Mathlib.Omega.{arith}
-use lib.Dec.{eqb, ltb}
+use lib.Dec.{eqb}
 use lib.ListN.{length, getD, take}
-use Rattle.std.proofs.shelf.Tests.{cases-eq, cases-lt, cases-bool, eq-eqb, ne-eqb, eqb-true, lt-ltb, le-ltb, and-parts, and-from}
+use Rattle.std.proofs.shelf.Tests.{cases-eq, cases-lt, eq-eqb, ne-eqb, eqb-true, lt-ltb, le-ltb, and-parts, and-from}
 use Rattle.std.proofs.shelf.Lists.{getD-take, length-take}
 use Rattle.scans.specs.Scans.{someIn}
 use Rattle.scans.proofs.Lists.{someIn-more}
@@ -15,7 +15,7 @@ use Rattle.edges.proofs.Views.{whole}
 use Rattle.edges.specs.declared.edge.Edge.{Edge}
 use Rattle.edges.specs.Edges.{noEdge}
 use Rattle.orders.specs.Marks.{marked, joined}
-use Rattle.orders.specs.PairSets.{Repeats, Next, Reads}
+use Rattle.orders.specs.PairSets.{Repeats, Reads}
 use Rattle.orders.proofs.Results.{one-in}
 use Rattle.orders.proofs.Ways.{find-in}
 

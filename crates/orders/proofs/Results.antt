@@ -1,7 +1,7 @@
 -- What the search has found when each task of the order is taken up.
 use Prim.Native.Nat.{ℕ, zero, suc, _+_, _<_, _≤_}
 use mathlib.Core.Path.{_≡_, refl, sym, ap, _∙_, subst}
-use mathlib.Core.Bool.{Bool, true, false, cond, _&&_, _||_}
+use mathlib.Core.Bool.{Bool, true, false, _&&_}
 use mathlib.Core.Logic.{inl, inr}
 use mathlib.Core.List.{List, [], _∷_, _++_}
 use native.Mathlib.Omega.{arith}
@@ -11,13 +11,13 @@ use Rattle.std.specs.shelf.Lists.{countBy}
 use Rattle.std.specs.declared.option.Option.the-variants.{None}
 use Rattle.std.proofs.shelf.Sums.{sumBy-cons}
 use Rattle.std.proofs.shelf.Tests.{cases-eq, cases-lt, cases-bool, eqb-true, and-left, leb-true, and-parts, or-from, and-from, or-left, or-right, lt-ltb, le-ltb, both-ways}
-use Rattle.scans.specs.Scans.{someIn, lowest, orElse}
+use Rattle.scans.specs.Scans.{someIn, lowest}
 use Rattle.scans.proofs.Scans.{lowest-all}
 use Rattle.edges.proofs.Views.{whole}
 use Rattle.edges.specs.declared.edge.Edge.{Edge}
 use Rattle.edges.specs.Edges.{noEdge, Within}
 use Rattle.orders.specs.Orders.{stuck, Ordered}
-use Rattle.orders.specs.Searches.{isWaiting, Shape, Going}
+use Rattle.orders.specs.Searches.{isWaiting, Going}
 use Rattle.orders.proofs.Shapes.{one-if, busy}
 
 none-in : (p : Edge → Bool) (es : List Edge) → ((k : ℕ) → k < length es → p (getD es k noEdge) ≡ false) → someIn p es ≡ false

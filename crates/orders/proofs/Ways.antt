@@ -1,7 +1,7 @@
 -- Ways along edges: a way that passes more edges than there are tasks passes a cycle, and ranks that rise along each edge leave no cycle.
 use Prim.Native.Nat.{ℕ, zero, suc, _+_, _-_, _<_, _≤_}
 use mathlib.Core.Path.{_≡_, refl, sym, ap, _∙_, subst}
-use mathlib.Core.Bool.{Bool, true, false, cond, _&&_, _||_}
+use mathlib.Core.Bool.{Bool, true, false, cond, _&&_}
 use mathlib.Core.Logic.{_⊎_, inl, inr}
 use mathlib.Core.List.{List, [], _∷_}
 use native.Mathlib.Omega.{arith}
@@ -20,7 +20,7 @@ use Rattle.edges.specs.Edges.{noEdge, Within}
 use Rattle.orders.specs.declared.order.Order.{Order}
 use Rattle.orders.specs.declared.order.OrderFault.{OrderFault}
 use Rattle.orders.specs.declared.order.OrderFault.the-variants.{Memory, Cycle}
-use Rattle.orders.specs.Orders.{stuck, Ordered}
+use Rattle.orders.specs.Orders.{stuck}
 use Rattle.orders.specs.Answers.{Answered}
 use Rattle.orders.specs.Cycles.{Leads, Way, AfterCycle, StuckLaw, Cyclic, CycleLaw}
 use Rattle.orders.proofs.Results.{one-in}

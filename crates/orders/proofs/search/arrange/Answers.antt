@@ -1,6 +1,5 @@
 use native.Mathlib.Omega.{arith}
-use mathlib.Core.Path.{sym, ap, _∙_}
-use lib.ListN.{length}
+use mathlib.Core.Path.{sym, _∙_}
 use Rattle.edges.specs.Tables.{listed}
 use Rattle.orders.proofs.Results.{lowest-stuck, all-ordered}
 use Rattle.orders.proofs.search.arrange.Needs as need

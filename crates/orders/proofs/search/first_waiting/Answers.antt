@@ -2,7 +2,7 @@ use borrow.Author.Count.{below-more}
 use native.Mathlib.Omega.{arith}
 use mathlib.Core.Path.{_≡_, sym}
 use mathlib.Core.Bool.{false}
-use lib.ListN.{getD, length}
+use lib.ListN.{length}
 use Rattle.std.proofs.shelf.Tests.{lt-ltb, le-ltb}
 use Rattle.scans.proofs.Scans.{lowest-none, lowest-is}
 use Rattle.orders.specs.Searches.{isWaiting}

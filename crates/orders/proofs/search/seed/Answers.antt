@@ -1,5 +1,5 @@
 use native.Mathlib.Omega.{arith}
-use lib.ListN.{getD, length}
+use lib.ListN.{length}
 use Rattle.orders.proofs.Shapes.{shape-none, seed-more, going-first}
 use Rattle.orders.proofs.search.seed.Needs as need
 

@@ -1,5 +1,4 @@
 use native.Mathlib.Omega.{arith}
-use lib.ListN.{length}
 use Rattle.edges.specs.Tables.{listed}
 use Rattle.orders.proofs.Turns.{turn-due, turn}
 use Rattle.orders.proofs.search.take_turns.Needs as need
