@@ -1,41 +1,67 @@
 -- In a graph with no cycle there is one table of levels, and its entries are low.
 use Prim.Native.Nat.{ℕ, zero, suc, _+_, _*_, _^_, _≤_, _<_}
 use mathlib.Core.Path.{_≡_, refl, sym, _∙_, ap}
-use mathlib.Core.Bool.{cond}
-use mathlib.Core.Logic.{inl, inr}
+use mathlib.Core.Logic.{_⊎_, inl, inr}
 use mathlib.Core.List.{List}
 use native.Mathlib.Omega.{arith}
-use lib.Dec.{eqb, ltb}
-use lib.ListN.{getD}
-use Rattle.std.proofs.shelf.Tests.{cases-bool, cases-lt, eqb-true, lt-ltb, le-ltb}
+use lib.Dec.{eqb}
+use Rattle.std.proofs.shelf.Tests.{cases-bool, cases-eq, cases-lt, cond-true, cond-false, eqb-true, eq-eqb, ne-eqb, lt-ltb, le-ltb}
 use Rattle.std.proofs.shelf.Ways.{tells}
-use Rattle.scans.specs.Scans.{largestIn}
-use Rattle.scans.proofs.Scans.{largest-same, largest-under}
+use Rattle.scans.specs.Scans.{largest, largestIn}
+use Rattle.scans.proofs.Scans.{largest-above, largest-same, largest-under}
 use Rattle.scans.proofs.Lists.{largest-kept}
 use Rattle.edges.specs.declared.edge.Edge.{Edge}
 use Rattle.edges.specs.Edges.{noEdge, outOf}
 use Rattle.graphs.specs.declared.types.Task.{Task}
 use Rattle.graphs.specs.Model.{TaskGraph, Known, Acyclic, Sound, model}
 use Rattle.links.specs.Links.{Arrives, Lawful}
-use Rattle.levels.specs.Levels.{nominal, wayOn, levelOf, Levels, levelIn, bLevel, levelAt, LevelsAreUnique}
+use Rattle.levels.specs.Levels.{nominal, wayOn, levelOf, Levels, Longest, levelIn, bLevel, levelAt, LevelsAreUnique}
+
+largest-reached : (f : ℕ → ℕ) (n : ℕ) → (largest f n ≡ 0) ⊎ ((k : ℕ) × (k < n) × (largest f n ≡ f k))
+largest-reached f zero = inl refl
+largest-reached f (suc n) = elim (cases-lt (largest f n) (f n)) [
+  | inl l ↦ inr (n, omega arith, omega arith)
+  | inr ge ↦ elim (largest-reached f n) [
+    | inl z ↦ inl (omega arith)
+    | inr p ↦ inr (p .0, omega (arith, p .1), omega (arith, p .2))
+  ]
+]
 
 module _ (arrives : Arrives) (g : TaskGraph) where
   -- only the levels of successors count
   pub level-same : (f h : ℕ → ℕ) (t : ℕ) → ((k : ℕ) → k < g .edges → g .from k ≡ t → f (g .to k) ≡ h (g .to k)) → levelOf arrives g f t ≡ levelOf arrives g h t
   unfolding levelOf
   level-same f h t e =
-    let same = largest-same (wayOn arrives g f t) (wayOn arrives g h t) (g .edges) (λ k l. elim (cases-bool (eqb (g .from k) t)) [
-        inl y ↦ (let q = e k l (eqb-true _ _ y) in simp (y, q))
-      | inr n ↦ simp n ]) in
-    simp same
+      let same = largest-same (wayOn arrives g f t) (wayOn arrives g h t) (g .edges) (λ k l. elim (cases-bool (eqb (g .from k) t)) [
+        | inl y ↦ (let q = e k l (eqb-true _ _ y) in simp (y, q))
+        | inr n ↦ simp n
+      ]) in
+      simp same
+
+  pub longest-by : (level : ℕ → ℕ) → Levels arrives g level → (t : ℕ) → t < g .tasks → Longest arrives g level t
+  unfolding levelOf
+  longest-by level is t l =
+      let way = wayOn arrives g level t in
+      let e = is t l in
+      let out : (k : ℕ) → g .from k ≡ t → wayOn arrives g level t k ≡ nominal arrives g k + level (g .to k) = λ k q. cond-true _ _ _ (eq-eqb _ _ q) in
+      record {
+        above = λ k kl q. omega (arith, e, largest-above way (g .edges) k kl, out k q);
+        reached = elim (largest-reached way (g .edges)) [
+          | inl z ↦ inl (omega (arith, e, z))
+          | inr p ↦ elim (cases-eq (g .from (p .0)) t) [
+            | inl q ↦ inr (p .0, p .1, q, omega (arith, e, p .2, out (p .0) q))
+            | inr ne ↦ inl (let none : wayOn arrives g level t (p .0) ≡ 0 = cond-false _ _ _ (ne-eqb _ _ ne) in omega (arith, e, p .2))
+          ]
+        ];
+      }
 
   under : Lawful arrives → ((t : ℕ) → g .time t ≤ 2 ^ 20) → (n t : ℕ) → levelIn arrives g n t ≤ n * 2 ^ 41
   unfolding levelOf
   under lawful times zero t = omega arith
   under lawful times (suc n) t =
-    let way = largest-under (wayOn arrives g (levelIn arrives g n) t) (g .edges) (2 ^ 40 + n * 2 ^ 41) (λ k l. let a = lawful .ceiling 0 0 1 (g .amount k) in let b = under lawful times n (g .to k) in grind (arith, tells)) in
-    let time = times t in
-    omega arith
+      let way = largest-under (wayOn arrives g (levelIn arrives g n) t) (g .edges) (2 ^ 40 + n * 2 ^ 41) (λ k l. let a = lawful .ceiling 0 0 1 (g .amount k) in let b = under lawful times n (g .to k) in grind (arith, tells)) in
+      let time = times t in
+      omega arith
 
   pub bLevel-low : Lawful arrives → Sound g → (t : ℕ) → bLevel arrives g t < 2 ^ 62
   unfolding bLevel
@@ -70,15 +96,15 @@ module _ (arrives : Arrives) (g : TaskGraph) where
     -- a table that agrees with the levels has them
     pub levels-by : (level : ℕ → ℕ) → ((k : ℕ) → level k ≡ levelAt arrives g k) → Levels arrives g level
     levels-by level e t l =
-      e t ∙ levelAt-task t l ∙ bLevel-is t l ∙ sym (level-same level (bLevel arrives g) t (λ k kl _. e (g .to k) ∙ levelAt-task (g .to k) (known k kl .1)))
+        e t ∙ levelAt-task t l ∙ bLevel-is t l ∙ sym (level-same level (bLevel arrives g) t (λ k kl _. e (g .to k) ∙ levelAt-task (g .to k) (known k kl .1)))
 
 pub levels-are-unique : LevelsAreUnique
 levels-are-unique arrives g known ac = (bLevel-is arrives g known ac, bLevel-only arrives g known ac)
 
 -- a level is the scan of the edges out of the task
 pub level-outputs : (arrives : Arrives) (ts : List Task) (es : List Edge) (level : ℕ → ℕ) (t : ℕ)
-  → levelOf arrives (model ts es) level t ≡ model ts es .time t + largestIn (λ e. arrives 0 0 1 (e .amount) + level (e .to)) (outOf es t)
+    → levelOf arrives (model ts es) level t ≡ model ts es .time t + largestIn (λ e. arrives 0 0 1 (e .amount) + level (e .to)) (outOf es t)
 unfolding levelOf
 level-outputs arrives ts es level t =
-  let e = largest-kept (λ (e : Edge). eqb (e .from) t) (λ e. arrives 0 0 1 (e .amount) + level (e .to)) es noEdge in
-  ap (λ (n : ℕ). model ts es .time t + n) e
+    let e = largest-kept (λ (e : Edge). eqb (e .from) t) (λ e. arrives 0 0 1 (e .amount) + level (e .to)) es noEdge in
+    ap (λ (n : ℕ). model ts es .time t + n) e

@@ -1,6 +1,6 @@
 -- One pass over the order of a graph, from its end: each task is visited after all its successors.
 use Prim.Native.Nat.{ℕ, _+_, _^_, _≤_, _<_}
-use mathlib.Core.Path.{_≡_, sym, _∙_, ap, subst}
+use mathlib.Core.Path.{_≡_, sym, _∙_, ap}
 use mathlib.Core.Logic.{inl, inr}
 use mathlib.Core.List.{List}
 use native.Mathlib.Omega.{arith}
@@ -9,7 +9,6 @@ use Rattle.std.specs.Of.Vec.{vec-items}
 use Rattle.std.proofs.shelf.Lists.{getD-set-same, getD-set-other}
 use Rattle.std.proofs.shelf.Tests.{cases-eq, cases-lt}
 use Rattle.graphs.specs.declared.graph.Graph.{Graph}
-use Rattle.graphs.specs.Model.{Sound}
 use Rattle.graphs.specs.Graphs.{modelOf}
 use Rattle.graphs.proofs.Sound.{sound}
 use Rattle.links.specs.Links.{Arrives, Lawful}
@@ -30,12 +29,14 @@ module _ (arrives : Arrives) (lawful : Lawful arrives) (g : Graph) where
   visited-none i levels le zero = record {
     done = λ t l h. absurd (omega (arith, g .ranked t l .0));
     past = λ k _. zero k;
-    low = λ k. omega (arith, zero k) }
+    low = λ k. omega (arith, zero k);
+  }
 
   pub visited-all : (i : ℕ) (levels : List ℕ) → i ≤ 0 → Visited arrives g i levels → (k : ℕ) → getD levels k 0 ≡ levelAt arrives (modelOf g) k
   visited-all i levels le v k = elim (cases-lt k (modelOf g .tasks)) [
-      inl l ↦ v .done k l (omega arith) ∙ sym (levelAt-task arrives (modelOf g) k l)
-    | inr ge ↦ v .past k ge ∙ sym (levelAt-past arrives (modelOf g) k ge) ]
+    | inl l ↦ v .done k l (omega arith) ∙ sym (levelAt-task arrives (modelOf g) k l)
+    | inr ge ↦ v .past k ge ∙ sym (levelAt-past arrives (modelOf g) k ge)
+  ]
 
   -- one visit more, at place j
   module _ (order levels : List ℕ) (i j level : ℕ) (is : order ≡ vec-items (g .order)) (next : j + 1 ≡ i) (jl : j < modelOf g .tasks) (rows : modelOf g .tasks ≤ length levels)
@@ -56,8 +57,8 @@ module _ (arrives : Arrives) (lawful : Lawful arrives) (g : Graph) where
     level-is : level ≡ bLevel arrives (modelOf g) t
     unfolding t
     level-is =
-      let later = λ (k : ℕ) (kl : k < modelOf g .edges) (e : modelOf g .from k ≡ t). was .done (modelOf g .to k) (sound g .known k kl .1) (omega (arith, g .forward k kl, ap (rankOf g) e, rank)) in
-      found ∙ level-same arrives (modelOf g) (λ k. getD levels k 0) (bLevel arrives (modelOf g)) t later ∙ sym (bLevel-is arrives (modelOf g) (sound g .known) (sound g .acyclic) t task)
+        let later = λ (k : ℕ) (kl : k < modelOf g .edges) (e : modelOf g .from k ≡ t). was .done (modelOf g .to k) (sound g .known k kl .1) (omega (arith, g .forward k kl, ap (rankOf g) e, rank)) in
+        found ∙ level-same arrives (modelOf g) (λ k. getD levels k 0) (bLevel arrives (modelOf g)) t later ∙ sym (bLevel-is arrives (modelOf g) (sound g .known) (sound g .acyclic) t task)
 
     -- another task stands at another place
     elsewhere : (u : ℕ) → u < modelOf g .tasks → (u ≡ t → ⊥) → rankOf g u ≡ j → ⊥
@@ -72,12 +73,15 @@ module _ (arrives : Arrives) (lawful : Lawful arrives) (g : Graph) where
     more : Visited arrives g j (set levels t level)
     more = record {
       done = λ u l h. elim (cases-eq u t) [
-          inl e ↦ ap (λ (n : ℕ). getD (set levels t level) n 0) e ∙ same ∙ level-is ∙ ap (bLevel arrives (modelOf g)) (sym e)
-        | inr ne ↦ other u ne ∙ was .done u l (let apart = elsewhere u l ne in elim (cases-eq (rankOf g u) j) [ inl e ↦ absurd (apart e) | inr far ↦ omega arith ]) ];
+        | inl e ↦ ap (λ (n : ℕ). getD (set levels t level) n 0) e ∙ same ∙ level-is ∙ ap (bLevel arrives (modelOf g)) (sym e)
+        | inr ne ↦ other u ne ∙ was .done u l (let apart = elsewhere u l ne in elim (cases-eq (rankOf g u) j) [ inl e ↦ absurd (apart e) | inr far ↦ omega arith ])
+      ];
       past = λ k le. other k (λ e. omega (arith, task, e)) ∙ was .past k le;
       low = λ k. elim (cases-eq k t) [
-          inl e ↦ omega (arith, ap (λ (n : ℕ). getD (set levels t level) n 0) e, same, level-is, bLevel-low arrives (modelOf g) lawful (sound g) t)
-        | inr ne ↦ omega (arith, other k ne, was .low k) ] }
+        | inl e ↦ omega (arith, ap (λ (n : ℕ). getD (set levels t level) n 0) e, same, level-is, bLevel-low arrives (modelOf g) lawful (sound g) t)
+        | inr ne ↦ omega (arith, other k ne, was .low k)
+      ];
+    }
 
     pub visited-more : Visited arrives g j (set levels (getD order j 0) level)
     unfolding t

@@ -1,7 +1,8 @@
 -- The level of a task: its time plus the longest way on from it, over the times of tasks and the nominal costs of edges.
-use Prim.Native.Nat.{ℕ, zero, suc, _+_, _<_}
+use Prim.Native.Nat.{ℕ, zero, suc, _+_, _≤_, _<_}
 use mathlib.Core.Path.{_≡_}
 use mathlib.Core.Bool.{cond}
+use mathlib.Core.Logic.{_⊎_}
 use lib.Dec.{eqb, ltb}
 use Rattle.scans.specs.Scans.{largest}
 use Rattle.graphs.specs.Model.{TaskGraph, Known, Acyclic}
@@ -23,6 +24,11 @@ levelOf arrives g level t = g .time t + largest (wayOn arrives g level t) (g .ed
 abbrev pub Levels : Arrives → TaskGraph → (ℕ → ℕ) → Type 0
 Levels arrives g level = (t : ℕ) → t < g .tasks → level t ≡ levelOf arrives g level t
 
+-- the same with no scan: no way on from t is longer than its level, and its level is its time alone, or one way on is as long
+pub record Longest (arrives : Arrives) (g : TaskGraph) (level : ℕ → ℕ) (t : ℕ) : Type 0 where
+  pub above : (k : ℕ) → k < g .edges → g .from k ≡ t → g .time t + (nominal arrives g k + level (g .to k)) ≤ level t
+  pub reached : (level t ≡ g .time t) ⊎ ((k : ℕ) × (k < g .edges) × (g .from k ≡ t) × (level t ≡ g .time t + (nominal arrives g k + level (g .to k))))
+
 -- the level of t over ways of at most n tasks
 abbrev pub levelIn : Arrives → TaskGraph → ℕ → ℕ → ℕ
 levelIn arrives g zero t = 0
@@ -39,4 +45,4 @@ levelAt arrives g k = cond (ltb k (g .tasks)) (bLevel arrives g k) 0
 -- in a graph with no cycle the levels are what `bLevel` says, and nothing else
 abbrev pub LevelsAreUnique : Type 0
 LevelsAreUnique = (arrives : Arrives) (g : TaskGraph) → Known g → Acyclic g
-  → Levels arrives g (bLevel arrives g) × ((level : ℕ → ℕ) → Levels arrives g level → (t : ℕ) → t < g .tasks → level t ≡ bLevel arrives g t)
+    → Levels arrives g (bLevel arrives g) × ((level : ℕ → ℕ) → Levels arrives g level → (t : ℕ) → t < g .tasks → level t ≡ bLevel arrives g t)

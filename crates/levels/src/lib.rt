@@ -5,7 +5,7 @@ ghost use Prim.Native.Nat.{ℕ, _<_, _≤_, _^_};
 ghost use lib.Dec.{leb};
 ghost use lib.ListN.{length, getD};
 ghost use Rattle.graphs.specs.Graphs.{tasksOf, modelOf};
-ghost use Rattle.levels.specs.Levels.{levelOf, levelAt, Levels, LevelsAreUnique};
+ghost use Rattle.levels.specs.Levels.{levelOf, levelAt, Levels, Longest, LevelsAreUnique};
 use graphs::Graph;
 use links::Link;
 
@@ -43,6 +43,7 @@ pub fn fill_levels<L: Link>(graph: &Graph, link: &L, levels: &mut [u64]) -> bool
     ensures each { λ r. ⌜ (r ≡ true → (k : ℕ) → getD (now (levels .exit)) k 0 ≡ levelAt (arrives (now (link .entry))) (modelOf (now (graph .entry))) k) ⌝ }
     ensures low { λ r. ⌜ (r ≡ true → (k : ℕ) → getD (now (levels .exit)) k 0 < 2 ^ 62) ⌝ }
     ensures relation { λ r. ⌜ (r ≡ true → Levels (arrives (now (link .entry))) (modelOf (now (graph .entry))) (λ k. getD (now (levels .exit)) k 0)) ⌝ }
+    ensures longest { λ r. ⌜ (r ≡ true → (t : ℕ) → t < length (tasksOf (now (graph .entry))) → Longest (arrives (now (link .entry))) (modelOf (now (graph .entry))) (λ k. getD (now (levels .exit)) k 0) t) ⌝ }
     ensures unique { λ _. ⌜ LevelsAreUnique ⌝ }
 {
     if levels.len() < graph.tasks().len() {

@@ -7,4 +7,4 @@ use Rattle.levels.proofs.level_of.Given as given
 abbrev pub Inv-loop-e : given.InvT-loop-e
 Inv-loop-e g l =
     (l .longest ≡ largestIn (λ e. g .L·Link .arrives (l .link) 0 0 1 (e .amount) + getD (l .levels) (e .to) 0) (take (l .e-index) (l .outputs)))
-  × (l .longest < 2 ^ 63)
+    × (l .longest < 2 ^ 63)
