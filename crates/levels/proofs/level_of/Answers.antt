@@ -1,5 +1,5 @@
 use native.Mathlib.Omega.{arith}
-use Prim.Native.Nat.{ℕ, _+_}
+use Prim.Native.Nat.{ℕ, _+_, _≤_, _^_}
 use mathlib.Core.Path.{ap, _∙_}
 use lib.ListN.{getD}
 use Rattle.std.proofs.shelf.Lists.{take-all}
@@ -15,7 +15,8 @@ use Rattle.levels.proofs.level_of.Needs as need
 pub add-arrival : need.add-arrival
 add-arrival g c =
     let e = getD (c .outputs-outputs .result .now) (c .loop-e .e-index) noEdge in
-    omega (arith, g .L·Link·met .lawful (c .args .link .now) .ceiling 0 0 1 (e .amount), c .pre .low (e .to), c .arrival .ensures)
+    let ceiling : c .arrival .result ≤ 2 ^ 40 = rw (c .arrival .ensures) (g .L·Link·met .lawful (c .args .link .now) .ceiling _ _ _ _) in
+    omega (arith, c .pre .low (e .to))
 
 pub loop-e-again : need.loop-e-again
 loop-e-again g c =

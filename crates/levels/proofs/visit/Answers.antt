@@ -16,9 +16,9 @@ level-of-requires g c κs = record { rows = omega (arith, c .pre .rows, c .loop-
 pub loop-i-again : need.loop-i-again
 loop-i-again g c =
     visited-more (g .L·Link .arrives (c .args .link .now)) (g .L·Link·met .lawful (c .args .link .now)) (c .args .graph .now)
-    (c .order-order .result .now) (c .loop-i .levels) (c .loop-i .i) (c .loop-i .i - 1) (c .level-of .result) (c .order-order .ensures)
+    (c .order-order .result .now) (c .loop-i .levels) (c .loop-i .i) (c .loop-i .i - 1) _ (c .order-order .ensures)
     (omega arith) (omega (arith, c .loop-i .kept .i, ap length (c .order-order .ensures), c .args .graph .now .placed .0)) (omega (arith, c .pre .rows, c .loop-i .kept .levels))
-    (c .loop-i .inv) (c .level-of .ensures)
+    (c .loop-i .inv) (omega (arith, c .level-of .ensures))
 
 pub returns : need.returns
 returns g c =
