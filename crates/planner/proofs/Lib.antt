@@ -1,0 +1,4 @@
+pub mod Choices
+pub mod Goods
+pub mod Afters
+pub mod Laws

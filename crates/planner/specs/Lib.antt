@@ -1,0 +1,4 @@
+pub mod Turns
+pub mod Plans
+pub mod Laws
+pub mod Queues

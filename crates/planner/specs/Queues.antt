@@ -1,0 +1,23 @@
+-- The ready tasks as they wait in the heap: the higher rank first, then the lower number.
+use Prim.Native.Nat.{ℕ, zero, suc}
+use mathlib.Core.Path.{_≡_}
+use mathlib.Core.Bool.{Bool, cond, not, _&&_}
+use mathlib.Core.List.{List, []}
+use Rattle.heaps.specs.declared.entries.Ready.{Ready}
+use Rattle.heaps.specs.Entries.{sooner}
+use Rattle.heaps.specs.Orders.{insert}
+use Rattle.graphs.specs.Model.{TaskGraph}
+use Rattle.steps.specs.Seats.{Seats, follows}
+use Rattle.planner.specs.Turns.{ready}
+
+abbrev pub entry : (ℕ → ℕ) → ℕ → Ready
+entry key t = record { rank = key t; task = t }
+
+-- the numbers below n that pass, with their keys, in the order of the heap
+abbrev pub line : (ℕ → Bool) → (ℕ → ℕ) → ℕ → List Ready
+line p key zero = []
+line p key (suc n) = cond (p n) (insert sooner (entry key n) (line p key n)) (line p key n)
+
+-- v is ready, and does not wait for t
+abbrev pub apartFrom : TaskGraph → Seats → ℕ → ℕ → Bool
+apartFrom g s t v = ready g s v && not (follows g t v)
