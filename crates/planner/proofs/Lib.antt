@@ -2,3 +2,5 @@ pub mod Choices
 pub mod Goods
 pub mod Afters
 pub mod Laws
+pub mod Lines
+pub mod Queues

@@ -1,10 +1,12 @@
 -- The ready tasks as they wait in the heap: the higher rank first, then the lower number.
-use Prim.Native.Nat.{ℕ, zero, suc}
+use Prim.Native.Nat.{ℕ, zero, suc, _≤_}
 use mathlib.Core.Path.{_≡_}
 use mathlib.Core.Bool.{Bool, cond, not, _&&_}
 use mathlib.Core.List.{List, []}
 use Rattle.heaps.specs.declared.entries.Ready.{Ready}
+use Rattle.heaps.specs.declared.heap.Heap.{Heap}
 use Rattle.heaps.specs.Entries.{sooner}
+use Rattle.heaps.specs.Heaps.{room, Kept, queue}
 use Rattle.heaps.specs.Orders.{insert}
 use Rattle.graphs.specs.Model.{TaskGraph}
 use Rattle.steps.specs.Seats.{Seats, follows}
@@ -21,3 +23,9 @@ line p key (suc n) = cond (p n) (insert sooner (entry key n) (line p key n)) (li
 -- v is ready, and does not wait for t
 abbrev pub apartFrom : TaskGraph → Seats → ℕ → ℕ → Bool
 apartFrom g s t v = ready g s v && not (follows g t v)
+
+-- the heap holds the numbers below n that pass, each with its key, and has room for all
+pub record Waiting (p : ℕ → Bool) (key : ℕ → ℕ) (n : ℕ) (h : Heap Ready) : Type 0 where
+  pub kept : Kept sooner h
+  pub roomy : n ≤ room h
+  pub holds : queue sooner h ≡ line p key n
