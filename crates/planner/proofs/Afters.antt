@@ -33,7 +33,8 @@ use Rattle.steps.specs.Steps.{seat}
 use Rattle.planner.specs.Turns.{brings, ready, rank, next, put, place, turn, goOn, after}
 use Rattle.planner.specs.Plans.{rowOf, rowAt, Rows}
 use Rattle.planner.proofs.Choices.{wins, none-wins}
-use Rattle.planner.proofs.Goods.{Good, begin, good-more}
+use Rattle.planner.specs.Goods.{Good, begin}
+use Rattle.planner.proofs.Goods.{good-more}
 
 nobody-at : (t : ℕ) → at nobody t ≡ None
 nobody-at t = elim (cases-lt t 512) [

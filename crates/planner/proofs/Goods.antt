@@ -22,23 +22,9 @@ use Rattle.plans.specs.declared.types.Limits.{Limits}
 use Rattle.plans.specs.declared.fault.PlanFault.{PlanFault}
 use Rattle.steps.specs.Seats.{Seats, nobody, at, sits, sitsOn, over, host, endOf, placed, Early, open?, free, inUse, endOn, sizeOn, fits, reach, inputAt, startOn}
 use Rattle.steps.specs.Steps.{choice, seatAt, seat}
+use Rattle.planner.specs.Goods.{begin, Good}
 use Rattle.planner.specs.Turns.{brings, ready}
 use Rattle.planner.proofs.Choices.{Candidate, choice-in}
-
-abbrev pub begin : Option Row → ℕ
-begin None = 0
-begin (Some r) = r .start
-
--- what holds of the tasks placed so far
-pub record Good (limits : Limits) (arrives : Arrives) (g : TaskGraph) (s : Seats) : Type 0 where
-  pub sized : length s ≡ 512
-  pub tasks : (t : ℕ) → placed s t ≡ true → t < g .tasks
-  pub early : Early g s
-  pub on : (t w : ℕ) → sits (at s t) w ≡ true → w < limits .workers
-  pub room : (w : ℕ) → inUse g s w ≤ limits .memory
-  pub apart : (t u w : ℕ) → (t ≡ u → ⊥) → sits (at s t) w ≡ true → sits (at s u) w ≡ true → (endOf g s t ≤ begin (at s u)) ⊎ (endOf g s u ≤ begin (at s t))
-  pub fed : (k w : ℕ) → k < g .edges → sits (at s (g .to k)) w ≡ true → (placed s (g .from k) ≡ true) × (reach arrives g s w k ≤ begin (at s (g .to k)))
-  pub lowest : (w v : ℕ) → v < w → open? g s w ≡ true → open? g s v ≡ true
 
 -- t starts on its worker when the definition says, and ends in time
 abbrev Seated : Arrives → TaskGraph → Seats → ℕ → Row → Type 0

@@ -30,7 +30,6 @@ use Rattle.steps.specs.Seats.{Seats, at, sits, host, placed}
 use Rattle.planner.specs.Turns.{next, ready, rank, after}
 use Rattle.planner.specs.Plans.{orPolicy, badParameter, tooLarge, planned, rowOf, Rows}
 use Rattle.planner.specs.Laws.{NextInWords, OpenedFromLowest, PlacedAfterInputs, PlansPass, PlanLaws}
-use Rattle.planner.proofs.Goods.{Good}
 use Rattle.planner.proofs.Afters.{after-good, all-placed, rules}
 
 pub next-in-words : NextInWords

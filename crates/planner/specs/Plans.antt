@@ -72,3 +72,9 @@ enough rows levels queue = leb 512 rows && (leb 512 levels && leb 512 queue)
 -- the answer of planning, for every input
 unfoldable pub planning : Bool → Limits → ℕ → Arrives → TaskGraph → Result ℕ PlanFault
 planning tables limits policy arrives g = cond tables (answer g (planned limits policy arrives g)) (Err ShortTable)
+
+-- what planning answers and leaves, where the tables have their rows
+pub record Outcome (limits : Limits) (policy : ℕ) (arrives : Arrives) (g : TaskGraph) (r : Result ℕ PlanFault) (rows : List Row) (levels : List ℕ) : Type 0 where
+  pub answered : r ≡ answer g (planned limits policy arrives g)
+  pub rowed : Rows (planned limits policy arrives g) rows
+  pub levelled : Levels arrives g (planned limits policy arrives g) levels
