@@ -26,18 +26,20 @@ Differ a b = a .start ≡ b .start → a .worker ≡ b .worker → ⊥
 
 rises-from : (a b : Line) → above b a ≡ false → Differ a b → Before a b
 rises-from a b e d = elim (cases-lt (a .start) (b .start)) [
-    inl l ↦ inl l
+  | inl l ↦ inl l
   | inr g ↦ (
       let s : a .start ≡ b .start = grind (arith, tells) in
       let w : a .worker ≤ b .worker = grind (arith, tells) in
-      inr (s, elim (cases-lt (a .worker) (b .worker)) [ inl l ↦ l | inr m ↦ absurd (d s (omega arith)) ])) ]
+      inr (s, elim (cases-lt (a .worker) (b .worker)) [ inl l ↦ l | inr m ↦ absurd (d s (omega arith)) ]))
+]
 
 module _ (j : Job) (sound : Sound (j .graph)) (rules : Rules j) where
   -- two tasks of one worker do not start at one tick, since the one ends before the other starts
   differ : (t u : ℕ) → t < u → u < j .graph .tasks → Differ (lineOf j t) (lineOf j u)
   differ t u p q s w = elim (rules .apart t (omega arith) u q (omega arith) w) [
-      inl e ↦ omega (arith, sound .lasting t (omega arith))
-    | inr e ↦ omega (arith, sound .lasting u q) ]
+    | inl e ↦ omega (arith, sound .lasting t (omega arith))
+    | inr e ↦ omega (arith, sound .lasting u q)
+  ]
 
   all-differ : (a n : ℕ) → a + n ≤ j .graph .tasks → Pairs Differ (map (lineOf j) (counting a n))
   all-differ a zero h = tt

@@ -1,5 +1,5 @@
 -- What is written, in the words of the tests, is what is computed, and it is a sheet.
-use Prim.Native.Nat.{ℕ, _≤_, _<_}
+use Prim.Native.Nat.{ℕ, _≤_}
 use mathlib.Core.Path.{_≡_, refl, sym, ap, subst, _∙_}
 use mathlib.Core.List.{List, _++_}
 use native.Mathlib.Omega.{arith}
@@ -16,7 +16,7 @@ use Rattle.plans.specs.Rules.{Allowed, Rules, latest}
 use Rattle.plans.specs.Checked.{checked}
 use Rattle.plans.proofs.Told.{told-is}
 use Rattle.sheets.specs.Sheets.{sheetText, Sheet}
-use Rattle.sheets.specs.Answers.{roomed, sheeted, leaves, Unwritten, short, unchecked, full, Written, Lawful}
+use Rattle.sheets.specs.Answers.{roomed, sheeted, leaves, Unwritten, short, unchecked, full, Written, LinesStand}
 use Rattle.sheets.proofs.Laws.{text-lawful}
 
 module _ (rows table : ℕ) (j : Job) (names : List Name) (was now : List ℕ) where
@@ -48,10 +48,10 @@ module _ (rows table : ℕ) (j : Job) (names : List Name) (was now : List ℕ) w
   written-leaves (Ok n) w = w .3 .bytes ∙ ap (λ (k : ℕ). sheetText j names ++ drop k was) (sym (w .3 .count))
   written-leaves (Err e) w = w .1
 
-  pub written-lawful : Sound (j .graph) → (r : Result ℕ PlanFault) → Written rows table j names was now r → Lawful j names now r
-  written-lawful s (Ok n) w m e =
+  pub written-stands : Sound (j .graph) → (r : Result ℕ PlanFault) → Written rows table j names was now r → LinesStand j names now r
+  written-stands s (Ok n) w m e =
       let i : n ≡ m = cc in
       let front : take n now ≡ sheetText j names = ap (take n) (w .3 .bytes) ∙ take-at (sheetText j names) _ n (sym (w .3 .count)) in
       let text : sheetText j names ≡ take m now = sym front ∙ ap (λ (k : ℕ). take k now) i in
       subst (Sheet j names) text (text-lawful j s (w .2) names)
-  written-lawful s (Err e) w m f = absurd (let z : _≡_ {A = ℕ} 0 1 = cc in omega arith)
+  written-stands s (Err e) w m f = absurd (let z : _≡_ {A = ℕ} 0 1 = cc in omega arith)

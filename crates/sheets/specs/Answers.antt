@@ -1,4 +1,4 @@
--- What writing a sheet answers, and what it leaves in the buffer.
+-- What writing a sheet answers, and what it leaves in the buffer and in the table of lines.
 use Prim.Native.Nat.{ℕ, _≤_, _<_}
 use mathlib.Core.Path.{_≡_}
 use mathlib.Core.Bool.{cond}
@@ -8,6 +8,7 @@ use lib.ListN.{length, take, drop}
 use Rattle.std.specs.declared.result.Result.{Result}
 use Rattle.std.specs.declared.result.Result.the-variants.{Ok, Err}
 use Rattle.graphs.specs.declared.types.Name.{Name}
+use Rattle.heaps.specs.declared.entries.Line.{Line}
 use Rattle.numbers.specs.Texts.{Stands}
 use Rattle.plans.specs.declared.fault.PlanFault.{PlanFault}
 use Rattle.plans.specs.declared.fault.PlanFault.the-variants.{ShortTable, ShortBuffer}
@@ -16,12 +17,12 @@ use Rattle.plans.specs.Rules.{Allowed, Rules}
 use Rattle.plans.specs.Checked.{checked, Denied}
 use Rattle.sheets.specs.Sheets.{sheetText, Sheet}
 
--- after the check, the room: so many bytes are written, or are too many
+-- after the check, the room: the answer is how many bytes the sheet has, or that they are too many
 abbrev pub roomed : ℕ → ℕ → Result ℕ PlanFault → Result ℕ PlanFault
 roomed room size (Ok _) = cond (ltb room size) (Err (ShortBuffer size)) (Ok size)
 roomed room size (Err e) = Err e
 
--- the answer, from the rows of the plan and of the table of lines, and the bytes of the buffer
+-- the answer, where the plan has `rows` rows, the table of lines `table` rows and the buffer `room` bytes
 unfoldable pub sheeted : ℕ → ℕ → ℕ → Job → List Name → Result ℕ PlanFault
 sheeted rows table room j names = cond (ltb table 512) (Err ShortTable) (roomed room (length (sheetText j names)) (checked rows j))
 
@@ -41,6 +42,10 @@ abbrev pub Written : ℕ → ℕ → Job → List Name → List ℕ → List ℕ
 Written rows table j names was now (Ok n) = (512 ≤ table) × Allowed rows j × Rules j × Stands (sheetText j names) was now n
 Written rows table j names was now (Err e) = Unwritten rows table (length was) (length (sheetText j names)) j e × (now ≡ was)
 
--- what is written is a sheet
-abbrev pub Lawful : Job → List Name → List ℕ → Result ℕ PlanFault → Type 0
-Lawful j names now r = (n : ℕ) → r ≡ Ok n → Sheet j names (take n now)
+-- the n bytes in front, where n is answered, are a sheet
+abbrev pub LinesStand : Job → List Name → List ℕ → Result ℕ PlanFault → Type 0
+LinesStand j names now r = (n : ℕ) → r ≡ Ok n → Sheet j names (take n now)
+
+-- the table of lines has as many rows as before, and where no sheet is written the same ones
+abbrev pub Lent : List Line → List Line → Result ℕ PlanFault → Type 0
+Lent was now r = (length now ≡ length was) × ((e : PlanFault) → r ≡ Err e → now ≡ was)

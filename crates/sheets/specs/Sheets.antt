@@ -24,11 +24,11 @@ taskText j names t = lineText (j .start t) (end j t) (j .worker t) (getD (map sp
 abbrev pub lineOf : Job → ℕ → Line
 lineOf j t = record { start = j .start t; worker = j .worker t; task = t }
 
--- the lines of the tasks, from 0
+-- the lines of the first n tasks, by task number
 abbrev pub lined : Job → ℕ → List Line
 lined j n = map (lineOf j) (counting 0 n)
 
--- the lines of all tasks, in order
+-- the lines of all tasks, by start, then by worker
 abbrev pub linesOf : Job → List Line
 linesOf j = ordered above (lined j (j .graph .tasks))
 
@@ -36,6 +36,7 @@ linesOf j = ordered above (lined j (j .graph .tasks))
 abbrev pub linesText : Job → List Name → List Line → List ℕ
 linesText j names lines = joined (λ l. taskText j names (l .task)) lines
 
+-- the text of a sheet
 unfoldable pub sheetText : Job → List Name → List ℕ
 sheetText j names = linesText j names (linesOf j)
 

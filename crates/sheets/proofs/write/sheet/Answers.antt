@@ -2,7 +2,7 @@ use lib.ListN.{length}
 use Rattle.graphs.specs.Graphs.{modelOf, namesOf}
 use Rattle.graphs.proofs.Sound.{sound}
 use Rattle.plans.specs.Jobs.{job}
-use Rattle.sheets.proofs.Writes.{written-is, written-leaves, written-lawful}
+use Rattle.sheets.proofs.Writes.{written-is, written-leaves, written-stands}
 use Rattle.sheets.proofs.write.sheet.Needs as need
 
 pub returns : need.returns
@@ -20,5 +20,5 @@ returns g c =
       bytes = written-leaves rows table j names (args .out .now) (c .write .last .out) r (did .written);
       table = did .table;
       written = did .written;
-      lawful = written-lawful rows table j names (args .out .now) (c .write .last .out) (sound graph) r (did .written);
+      stands = written-stands rows table j names (args .out .now) (c .write .last .out) (sound graph) r (did .written);
     }
