@@ -1,0 +1,6 @@
+pub mod Bytes
+pub mod Tables
+pub mod Rows
+pub mod Loads
+pub mod Files
+pub mod Written
