@@ -17,14 +17,15 @@ use Rattle.numbers.specs.Numbers.{coded}
 use Rattle.numbers.proofs.Groups.{Bytes}
 use Rattle.numbers.proofs.Laid.{past}
 use Rattle.records.specs.Fields.{andThen, mapOk, mapErr, fieldAt}
-use Rattle.records.proofs.Fields.{ok-same, un-then, un-mapErr, un-refused, field-at, un-field}
+use Rattle.records.proofs.Fields.{Number, ok-same, un-then, un-mapErr, un-refused, field-at, un-field}
 use Rattle.graphs.specs.Model.{TaskGraph}
 use Rattle.plans.specs.declared.types.Row.{Row}
+use Rattle.plans.specs.declared.fault.PlanFault.the-variants.{NotOfGraph}
 use Rattle.plans.specs.Jobs.{noRow, unlinked}
 use Rattle.plans.specs.Rules.{latest}
 use Rattle.planfiles.specs.declared.head.Head.{Head}
 use Rattle.planfiles.specs.Plans.{Plan, Few, Fits, rowBytes, planBytes}
-use Rattle.planfiles.specs.Reading.{inRow, rowOf, rowAt, ahead, rowsAt, headOf, headField, headAt, closed, planAt}
+use Rattle.planfiles.specs.Reading.{inRow, rowOf, rowAt, ahead, rowsAt, headOf, headField, limitsAt, headAt, closed, planAt}
 
 -- a row that a plan of so many workers may have
 abbrev Fit : ℕ → Row → Type 0
@@ -73,12 +74,12 @@ closes : (g : TaskGraph) (file : List ℕ) (h : Head) (rs : List Row) (end worke
 closes g file h rs end workers ticks a b l e =
     cond-false _ _ _ (le-ltb end (length file) l) ∙ cond-true _ _ _ (eq-eqb (h .ticks) _ (b ∙ e)) ∙ ap (λ x. Ok (record { workers = x; ticks = h .ticks; rows = rs })) a ∙ ap (λ x. Ok (record { workers = workers; ticks = x; rows = rs })) b
 
-pub plan-at : (g : TaskGraph) (file : List ℕ) (p : Plan) → g .tasks ≤ 512 → Fits g p → file ≡ planBytes p → planAt g file ≡ Ok p
+pub plan-at : (g : TaskGraph) (file : List ℕ) (p : Plan) → Fits g p → file ≡ planBytes p → planAt g file ≡ Ok p
 unfolding planAt
-plan-at g file p s f q =
+plan-at g file p f q =
     let rs = p .rows in
     let w = p .workers in
-    let h = head-at file (length rs) w (p .ticks) (joined rowBytes rs) (omega (arith, f .each)) (f .few) (f .low) q in
+    let h = head-at file (length rs) w (p .ticks) (joined rowBytes rs) (f .short) (f .few) (f .low) q in
     let e : drop (h .0 .next) file ≡ joined rowBytes rs ++ [] = h .4 ∙ sym (append-nil _) in
     let r = rows-at file w 0 (h .0 .next) rs [] (f .few .1) (fits-each g p f) e in
     let d : length file ≤ h .0 .next + length (joined rowBytes rs) = omega (arith, length-drop (h .0 .next) file, ap length (h .4)) in
@@ -130,27 +131,33 @@ module _ (file : List ℕ) (bytes : Bytes file) where
   -- a head stands at the start of the file
   pub record HeadThere (n : ℕ) (h : Head) : Type 0 where
     pub whole : file ≡ coded 2 ++ (coded n ++ (coded (h .workers) ++ (coded (h .ticks) ++ drop (h .next) file)))
+    pub short : n ≤ 512
     pub few : Few (h .workers)
     pub low : h .ticks ≤ 2 ^ 40
+
+  un-head-field : (at low high : ℕ) (p : ℕ × ℕ) → headField file at low high ≡ Ok p → Number file at p × (low ≤ p .0) × (p .0 ≤ high)
+  un-head-field at low high p e = un-field file bytes at low high p (un-mapErr (inRow 0) (fieldAt file at low high) p e)
 
   un-head : (n : ℕ) (h : Head) → headAt file n ≡ Ok h → HeadThere n h
   unfolding headAt
   un-head n h e =
       let a = un-then (headField file 0 2 2) _ h e in
       let b = un-then (headField file (a .0 .1) 0 512) _ h (a .2) in
-      let t = un-passed (eqb (b .0 .0) n) _ _ h (b .2) in
+      let t = un-passed (eqb (b .0 .0) n) (limitsAt file (b .0 .1)) (NotOfGraph (a .0 .1)) h (b .2) in
       let w = un-then (headField file (b .0 .1) 1 16) _ h (t .1) in
       let l = un-then (headField file (w .0 .1) 0 (2 ^ 40)) _ h (w .2) in
-      let fa = un-field file bytes 0 2 2 (a .0) (un-mapErr (inRow 0) _ (a .0) (a .1)) in
-      let fb = un-field file bytes (a .0 .1) 0 512 (b .0) (un-mapErr (inRow 0) _ (b .0) (b .1)) in
-      let fw = un-field file bytes (b .0 .1) 1 16 (w .0) (un-mapErr (inRow 0) _ (w .0) (w .1)) in
-      let fl = un-field file bytes (w .0 .1) 0 (2 ^ 40) (l .0) (un-mapErr (inRow 0) _ (l .0) (l .1)) in
+      let fa = un-head-field 0 2 2 (a .0) (a .1) in
+      let fb = un-head-field (a .0 .1) 0 512 (b .0) (b .1) in
+      let fw = un-head-field (b .0 .1) 1 16 (w .0) (w .1) in
+      let fl = un-head-field (w .0 .1) 0 (2 ^ 40) (l .0) (l .1) in
       let two : a .0 .0 ≡ 2 = omega (arith, fa .1, fa .2) in
-      let eb = fb .0 .bytes ∙ ap (λ x. coded x ++ drop (b .0 .1) file) (eqb-true (b .0 .0) n (t .0)) in
+      let same = eqb-true (b .0 .0) n (t .0) in
+      let eb = fb .0 .bytes ∙ ap (λ x. coded x ++ drop (b .0 .1) file) same in
       let d : headOf (w .0 .0) (l .0 .0) (w .0 .1) (l .0 .1) ≡ h = ok-same _ _ (l .2) in
       subst (HeadThere n) d
       record {
         whole = fa .0 .bytes ∙ ap (λ x. coded x ++ drop (a .0 .1) file) two ∙ ap (λ x. coded 2 ++ x) (eb ∙ ap (λ x. coded n ++ x) (fw .0 .bytes ∙ ap (λ x. coded (w .0 .0) ++ x) (fl .0 .bytes)));
+        short = omega (arith, fb .2, same);
         few = (fw .1, fw .2);
         low = fl .2;
       }
@@ -174,6 +181,7 @@ module _ (file : List ℕ) (bytes : Bytes file) where
       subst (λ (x : Plan). Fits g x × (file ≡ planBytes x)) d
       (record {
         few = t .few;
+        short = omega (arith, t .short, r .1);
         each = r .1;
         placed = λ k l. all-getD (Fit (h .0 .workers)) rs k noRow (omega (arith, r .1)) (r .2) .0;
         early = λ k l. all-getD (Fit (h .0 .workers)) rs k noRow (omega (arith, r .1)) (r .2) .1;

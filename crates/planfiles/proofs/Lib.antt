@@ -4,3 +4,4 @@ pub mod Rows
 pub mod Loads
 pub mod Files
 pub mod Written
+pub mod Accepted

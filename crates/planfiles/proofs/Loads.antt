@@ -28,34 +28,37 @@ filled-yes : (n : ℕ) (r : Result (List Row × ℕ) PlanFault) (x : ℕ) (now :
 filled-yes n (Ok q) x now f = (q, refl, (let e = f .0 in cc), f .1)
 filled-yes n (Err d) x now f = absurd (let z : _≡_ {A = ℕ} 0 1 = cc f in omega arith)
 
-module _ (n : ℕ) (g : TaskGraph) (file : List ℕ) (r : Result (ℕ × ℕ) PlanFault) (now : List Row) where
+-- the task count as the code has it
+module _ (n : ℕ) (g : TaskGraph) (file : List ℕ) (r : Result (ℕ × ℕ) PlanFault) (now : List Row) (tasks : ℕ) (t : tasks ≡ g .tasks) where
   refused : (e : PlanFault) → planAt g file ≡ Err e → r ≡ Err e → Loaded n (planAt g file) r now
   refused e p q = rw p q
 
   given : (p : Plan) → planAt g file ≡ Ok p → r ≡ Ok (answerOf p) → now ≡ padded n (p .rows) → Loaded n (planAt g file) r now
   given p e a b = rw e (a, b)
 
-  pub no-head : (e : PlanFault) → Err e ≡ headAt file (g .tasks) → r ≡ Err e → Loaded n (planAt g file) r now
+  pub no-head : (e : PlanFault) → Err e ≡ headAt file tasks → r ≡ Err e → Loaded n (planAt g file) r now
   unfolding planAt
-  no-head e p q = refused e (rw (← p)) q
+  no-head e p q = let d = p ∙ ap (headAt file) t in refused e (rw (← d)) q
 
-  module _ (h : Head) (hp : Ok h ≡ headAt file (g .tasks)) where
-    headed : planAt g file ≡ andThen (rowsAt (g .tasks) file (h .workers) 0 (h .next)) (closed g file h)
+  module _ (h : Head) (hp : Ok h ≡ headAt file tasks) where
+    headed : planAt g file ≡ andThen (rowsAt tasks file (h .workers) 0 (h .next)) (closed g file h)
     unfolding planAt
-    headed = rw (← hp)
+    headed =
+        ap (λ x. andThen x (λ y. andThen (rowsAt (g .tasks) file (y .workers) 0 (y .next)) (closed g file y))) (sym (hp ∙ ap (headAt file) t))
+        ∙ ap (λ m. andThen (rowsAt m file (h .workers) 0 (h .next)) (closed g file h)) (sym t)
 
-    pub no-rows : (e : PlanFault) → Filled n (rowsAt (g .tasks) file (h .workers) 0 (h .next)) (Err e) now → r ≡ Err e → Loaded n (planAt g file) r now
+    pub no-rows : (e : PlanFault) → Filled n (rowsAt tasks file (h .workers) 0 (h .next)) (Err e) now → r ≡ Err e → Loaded n (planAt g file) r now
     no-rows e f q = refused e (headed ∙ ap (λ x. andThen x (closed g file h)) (filled-not n _ e now f)) q
 
-    module _ (end : ℕ) (f : Filled n (rowsAt (g .tasks) file (h .workers) 0 (h .next)) (Ok end) now) where
+    module _ (end : ℕ) (f : Filled n (rowsAt tasks file (h .workers) 0 (h .next)) (Ok end) now) where
       came : (q : List Row × ℕ) × (planAt g file ≡ closed g file h q) × (end ≡ q .1) × (now ≡ padded n (q .0))
       came = let y = filled-yes n _ end now f in (y .0, headed ∙ ap (λ x. andThen x (closed g file h)) (y .1), y .2, y .3)
 
-      pub too-long : end < length file → r ≡ Err (inRow (g .tasks) (Trailing end)) → Loaded n (planAt g file) r now
+      pub too-long : end < length file → r ≡ Err (inRow tasks (Trailing end)) → Loaded n (planAt g file) r now
       too-long l e =
           let y = came in
           let k : y .0 .1 < length file = omega arith in
-          refused _ (y .1 ∙ cond-true _ _ _ (lt-ltb _ _ k) ∙ ap (λ x. Err (inRow (g .tasks) (Trailing x))) (sym (y .2))) e
+          refused _ (y .1 ∙ cond-true _ _ _ (lt-ltb _ _ k) ∙ ap (λ x. Err (inRow (g .tasks) (Trailing x))) (sym (y .2))) (e ∙ ap (λ m. Err (inRow m (Trailing end))) t)
 
       lasts : latest (unlinked g now 0 0) ≡ latest (unlinked g (came .0 .0) 0 0)
       lasts = ap (λ x. latest (unlinked g x 0 0)) (came .3) ∙ latest-padded g (came .0 .0) _

@@ -4,7 +4,7 @@ use mathlib.Core.Path.{_≡_, refl, sym, ap, _∙_}
 use mathlib.Core.Bool.{true, false}
 use mathlib.Core.List.{List}
 use native.Mathlib.Omega.{arith}
-use lib.ListN.{length, take, getD}
+use lib.ListN.{length, take, getD, length-take}
 use Rattle.std.specs.Vec.{made}
 use Rattle.std.specs.declared.result.Result.{Result}
 use Rattle.std.specs.declared.result.Result.the-variants.{Ok, Err}
@@ -59,6 +59,7 @@ module _ (g : TaskGraph) (rows : List Row) (workers : ℕ) where
       let at : (k : ℕ) → k < g .tasks → getD (take (g .tasks) rows) k noRow ≡ getD rows k noRow = λ k l. getD-take (g .tasks) rows k noRow l in
       record {
         few = w .few;
+        short = omega (arith, length-take (g .tasks) rows);
         each = length-take-le (g .tasks) rows (omega (arith, w .long));
         placed = λ k l. rw (at k l) (w .placed k l);
         early = λ k l. rw (at k l) (omega (arith, w .in-time k l));
@@ -68,5 +69,5 @@ module _ (g : TaskGraph) (rows : List Row) (workers : ℕ) where
 
   pub written-back : (was now : List ℕ) (r : Result ℕ PlanFault) → g .tasks ≤ 512 → Wrote g rows workers was now r → made r (λ n. planAt g (take n now) ≡ Ok (planOf g rows workers))
   written-back was now (Ok n) s t =
-      plan-at g (take n now) (planOf g rows workers) s (fits s (t .0)) (ap (take n) (t .1 .bytes) ∙ take-at (planFile g rows workers) _ n (sym (t .1 .count)))
+      plan-at g (take n now) (planOf g rows workers) (fits s (t .0)) (ap (take n) (t .1 .bytes) ∙ take-at (planFile g rows workers) _ n (sym (t .1 .count)))
   written-back was now (Err e) s t = tt

@@ -23,6 +23,7 @@ Few workers = (1 ≤ workers) × (workers ≤ 16)
 -- a plan of the graph's tasks that a file may hold: its length is the latest end, and no number is beyond its limit
 pub record Fits (g : TaskGraph) (p : Plan) : Type 0 where
   pub few : Few (p .workers)
+  pub short : length (p .rows) ≤ 512
   pub each : length (p .rows) ≡ g .tasks
   pub placed : Each (Placed (unlinked g (p .rows) (p .workers) 0)) (g .tasks)
   pub early : Each (Early (unlinked g (p .rows) (p .workers) 0)) (g .tasks)

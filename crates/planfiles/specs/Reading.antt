@@ -66,16 +66,19 @@ headOf workers ticks place next = record { workers = workers; ticks = ticks; pla
 abbrev pub headField : List ℕ → ℕ → ℕ → ℕ → Result (ℕ × ℕ) PlanFault
 headField file at low high = mapErr (inRow 0) (fieldAt file at low high)
 
+-- the workers and the length
+abbrev pub limitsAt : List ℕ → ℕ → Result Head PlanFault
+limitsAt file at =
+    andThen (headField file at 1 16)
+    (λ workers. andThen (headField file (workers .1) 0 (2 ^ 40))
+    (λ ticks. Ok (headOf (workers .0) (ticks .0) (workers .1) (ticks .1))))
+
 -- what stands before the rows of a plan of so many tasks
 unfoldable pub headAt : List ℕ → ℕ → Result Head PlanFault
 headAt file tasks =
     andThen (headField file 0 2 2)
     (λ kind. andThen (headField file (kind .1) 0 512)
-    (λ count. cond (eqb (count .0) tasks)
-      (andThen (headField file (count .1) 1 16)
-      (λ workers. andThen (headField file (workers .1) 0 (2 ^ 40))
-      (λ ticks. Ok (headOf (workers .0) (ticks .0) (workers .1) (ticks .1)))))
-      (Err (NotOfGraph (kind .1)))))
+    (λ count. cond (eqb (count .0) tasks) (limitsAt file (count .1)) (Err (NotOfGraph (kind .1)))))
 
 -- after the rows: bytes that follow, and then a length that is not the latest end
 abbrev pub closed : TaskGraph → List ℕ → Head → List Row × ℕ → Result Plan PlanFault

@@ -7,6 +7,7 @@ ghost use Rattle.plans.specs.Jobs.{noRow};
 ghost use Rattle.planfiles.specs.Plans.{Few, planFile};
 ghost use Rattle.planfiles.specs.Reading.{rowAt, rowsAt, headAt, planAt, answered, filled, Filled, Loaded, Accepts};
 use crate::head::Head;
+use crate::head::KIND;
 use graphs::Graph;
 use links::CEILING;
 use plans::PlanFault;
@@ -16,9 +17,6 @@ use plans::latest_end;
 use records::fault::RecordFault;
 use records::fault::with_record;
 use records::field::read_field;
-
-// The first number of a plan file.
-const KIND: u64 = 2;
 
 const MOST_TASKS: u64 = 512;
 
@@ -70,7 +68,7 @@ fn read_rows(file: &[u8], head: Head, tasks: usize, rows: &mut [Row]) -> Result<
 fn read_into(file: &[u8], graph: &Graph, rows: &mut [Row]) -> Result<(usize, u64), PlanFault>
     requires long { ⌜ 512 ≤ length (now rows) ⌝ }
     requires zero { ⌜ now rows ≡ replicate (length (now rows)) noRow ⌝ }
-    ensures loaded { λ r. ⌜ Loaded (length (now (rows .entry))) (planAt (modelOf (now (graph .entry))) (now (file .entry))) r (now (rows .exit)) ⌝ }
+    ensures { λ r. ⌜ Loaded (length (now (rows .entry))) (planAt (modelOf (now (graph .entry))) (now (file .entry))) r (now (rows .exit)) ⌝ }
 {
     let tasks = graph.tasks().len();
     let head = read_head(file, tasks)?;
@@ -99,17 +97,14 @@ pub fn read_plan(file: &[u8], graph: &Graph, rows: &mut [Row]) -> Result<(usize,
 fn load_plan(file: &[u8], graph: &Graph, rows: &mut [Row]) -> Result<(usize, u64), PlanFault>
     ensures is { λ r. ⌜ r ≡ answered (length (now (rows .entry))) (modelOf (now (graph .entry))) (now (file .entry)) ⌝ }
     ensures rows { λ _. ⌜ now (rows .exit) ≡ filled (now (rows .entry)) (modelOf (now (graph .entry))) (now (file .entry)) ⌝ }
-    ensures few { λ _. ⌜ modelOf (now (graph .entry)) .tasks ≤ 512 ⌝ }
 {
     if rows.len() < 512 {
         return Err(PlanFault::ShortTable);
     }
     rows.fill(EMPTY);
-    match read_into(file, graph, rows) {
-        Ok(answer) => Ok(answer),
-        Err(fault) => {
-            rows.fill(EMPTY);
-            Err(fault)
-        }
+    let answer = read_into(file, graph, rows);
+    if answer.is_err() {
+        rows.fill(EMPTY);
     }
+    answer
 }

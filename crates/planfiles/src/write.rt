@@ -9,6 +9,7 @@ ghost use Rattle.graphs.specs.Graphs.{modelOf};
 ghost use Rattle.planfiles.specs.Plans.{rowBytes, planBytes, planOf, planFile};
 ghost use Rattle.planfiles.specs.Reading.{planAt};
 ghost use Rattle.planfiles.specs.Writing.{Wrote, written, leaves};
+use crate::head::KIND;
 use graphs::Graph;
 use numbers::number::put_number;
 use plans::PlanFault;
@@ -16,9 +17,6 @@ use plans::Row;
 use plans::above_ceiling;
 use plans::latest_end;
 use plans::unplaced;
-
-// The first number of a plan file.
-const KIND: u64 = 2;
 
 // Writes the bytes of the rows from `from` on, as far as `out` goes, and answers the offset after them.
 fn put_rows(out: &mut [u8], from: usize, rows: &[Row]) -> usize
