@@ -50,7 +50,8 @@ module _ (j : Job) where
   pub says-alone : Says (Alone j) (alone? j)
   says-alone = record {
     yes = λ t h. every-all _ (j .graph .tasks) (λ u l. apart-yes t u (j .worker t) (j .worker u) (end j t) (j .start u) (end j u) (j .start t) (h u l));
-    back = λ t h u l n. apart-back t u (j .worker t) (j .worker u) (end j t) (j .start u) (end j u) (j .start t) (every-at _ (j .graph .tasks) u h l) n }
+    back = λ t h u l n. apart-back t u (j .worker t) (j .worker u) (end j t) (j .start u) (end j u) (j .start t) (every-at _ (j .graph .tasks) u h l) n;
+  }
 
   pub says-roomy : Says (Roomy j) (roomy? j)
   says-roomy = record { yes = λ k h. le-leb _ _ h; back = λ k h. leb-true _ _ h }

@@ -33,33 +33,37 @@ module _ (rows : ℕ) (j : Job) where
   -- the lowest limit that is outside its own, in the words of a refusal
   pub bad-denied : (p : ℕ) → 512 ≤ rows → Some p ≡ badLimit (j .workers) (j .memory) → Denied rows j (Parameter p)
   bad-denied p long e = elim (cases-bool (between 1 16 (j .workers))) [
-      inl w ↦ elim (cases-bool (between 1 (2 ^ 30) (j .memory))) [
-          inl m ↦ absurd (let z : Some p ≡ None = e ∙ cond-true _ _ _ w ∙ cond-true _ _ _ m in let o : _≡_ {A = ℕ} 0 1 = cc in omega arith)
-        | inr m ↦ (let z : Some p ≡ Some 2 = e ∙ cond-true _ _ _ w ∙ cond-false _ _ _ m in let i : 2 ≡ p = cc in subst (λ (q : ℕ). Denied rows j (Parameter q)) i (memory long (within 1 16 _ w) (outside 1 (2 ^ 30) _ m))) ]
-    | inr w ↦ (let z : Some p ≡ Some 1 = e ∙ cond-false _ _ _ w in let i : 1 ≡ p = cc in subst (λ (q : ℕ). Denied rows j (Parameter q)) i (workers long (outside 1 16 _ w))) ]
+    | inl w ↦ elim (cases-bool (between 1 (2 ^ 30) (j .memory))) [
+      | inl m ↦ absurd (let z : Some p ≡ None = e ∙ cond-true _ _ _ w ∙ cond-true _ _ _ m in let o : _≡_ {A = ℕ} 0 1 = cc in omega arith)
+      | inr m ↦ (let z : Some p ≡ Some 2 = e ∙ cond-true _ _ _ w ∙ cond-false _ _ _ m in let i : 2 ≡ p = cc in subst (λ (q : ℕ). Denied rows j (Parameter q)) i (memory long (within 1 16 _ w) (outside 1 (2 ^ 30) _ m)))
+    ]
+    | inr w ↦ (let z : Some p ≡ Some 1 = e ∙ cond-false _ _ _ w in let i : 1 ≡ p = cc in subst (λ (q : ℕ). Denied rows j (Parameter q)) i (workers long (outside 1 16 _ w)))
+  ]
 
   pub none-allowed : 512 ≤ rows → None ≡ badLimit (j .workers) (j .memory) → Allowed rows j
   none-allowed long e = elim (cases-bool (between 1 16 (j .workers))) [
-      inl w ↦ elim (cases-bool (between 1 (2 ^ 30) (j .memory))) [
-          inl m ↦ record { long = long; workers = within 1 16 _ w; memory = within 1 (2 ^ 30) _ m }
-        | inr m ↦ absurd (let z : None ≡ Some 2 = e ∙ cond-true _ _ _ w ∙ cond-false _ _ _ m in let o : _≡_ {A = ℕ} 0 1 = cc in omega arith) ]
-    | inr w ↦ absurd (let z : None ≡ Some 1 = e ∙ cond-false _ _ _ w in let o : _≡_ {A = ℕ} 0 1 = cc in omega arith) ]
+    | inl w ↦ elim (cases-bool (between 1 (2 ^ 30) (j .memory))) [
+      | inl m ↦ record { long = long; workers = within 1 16 _ w; memory = within 1 (2 ^ 30) _ m }
+      | inr m ↦ absurd (let z : None ≡ Some 2 = e ∙ cond-true _ _ _ w ∙ cond-false _ _ _ m in let o : _≡_ {A = ℕ} 0 1 = cc in omega arith)
+    ]
+    | inr w ↦ absurd (let z : None ≡ Some 1 = e ∙ cond-false _ _ _ w in let o : _≡_ {A = ℕ} 0 1 = cc in omega arith)
+  ]
 
   -- past the tables and the limits, the rules
   abbrev ruled : Result ℕ PlanFault
   ruled =
-    unless (failing (placed? j) (j .graph .tasks)) NoWorker
-    (unless (failing (inTime? j) (j .graph .tasks)) AboveCeiling
-    (unless (failing (alone? j) (j .graph .tasks)) Overlap
-    (unless (failing (roomy? j) (j .workers)) Overfull
-    (unless (failing (fed? j) (j .graph .edges)) LateInput
-    (Ok (latest j))))))
+      unless (failing (placed? j) (j .graph .tasks)) NoWorker
+      (unless (failing (inTime? j) (j .graph .tasks)) AboveCeiling
+      (unless (failing (alone? j) (j .graph .tasks)) Overlap
+      (unless (failing (roomy? j) (j .workers)) Overfull
+      (unless (failing (fed? j) (j .graph .edges)) LateInput
+      (Ok (latest j))))))
 
   past : Allowed rows j → checked rows j ≡ ruled
   unfolding checked
   past a =
-    let l : badLimit (j .workers) (j .memory) ≡ None = cond-true _ _ _ (inside 1 16 _ (a .workers)) ∙ cond-true _ _ _ (inside 1 (2 ^ 30) _ (a .memory)) in
-    cond-false _ _ _ (le-ltb rows 512 (a .long)) ∙ rw l
+      let l : badLimit (j .workers) (j .memory) ≡ None = cond-true _ _ _ (inside 1 16 _ (a .workers)) ∙ cond-true _ _ _ (inside 1 (2 ^ 30) _ (a .memory)) in
+      cond-false _ _ _ (le-ltb rows 512 (a .long)) ∙ rw l
 
   denied-is : (e : PlanFault) → Denied rows j e → checked rows j ≡ Err e
   unfolding checked
@@ -74,8 +78,8 @@ module _ (rows : ℕ) (j : Job) where
 
   pub told-is : (r : Result ℕ PlanFault) → Told rows j r → r ≡ checked rows j
   told-is (Ok n) t =
-    let k = t .1 in
-    ap Ok (t .2) ∙ sym (past (t .0) ∙ rw (none (says-placed j) _ (k .placed), none (says-in-time j) _ (k .in-time), none (says-alone j) _ (k .apart), none (says-roomy j) _ (k .roomy), none (says-fed j) _ (k .fed)))
+      let k = t .1 in
+      ap Ok (t .2) ∙ sym (past (t .0) ∙ rw (none (says-placed j) _ (k .placed), none (says-in-time j) _ (k .in-time), none (says-alone j) _ (k .apart), none (says-roomy j) _ (k .roomy), none (says-fed j) _ (k .fed)))
   told-is (Err e) t = sym (denied-is e t)
 
   missed : (P : ℕ → Type 0) (n p : ℕ) → Lowest P n p → Each P n → ⊥
@@ -95,7 +99,9 @@ module _ (rows : ℕ) (j : Job) where
   pub told-accepts : (r : Result ℕ PlanFault) → Told rows j r → Accepts rows j r
   told-accepts (Ok n) t = record {
     kept = λ a r. ap Ok (t .2);
-    only = λ m e. let i : n ≡ m = cc in (t .0, t .1, sym i ∙ t .2) }
+    only = λ m e. let i : n ≡ m = cc in (t .0, t .1, sym i ∙ t .2);
+  }
   told-accepts (Err f) t = record {
     kept = λ a r. absurd (never f t a r);
-    only = λ m e. absurd (let z : _≡_ {A = ℕ} 0 1 = cc in omega arith) }
+    only = λ m e. absurd (let z : _≡_ {A = ℕ} 0 1 = cc in omega arith);
+  }

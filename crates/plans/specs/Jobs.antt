@@ -26,7 +26,8 @@ job g rows limits arr = record {
   start = λ t. getD rows t noRow .start;
   workers = limits .workers;
   memory = limits .memory;
-  arrives = arr }
+  arrives = arr;
+}
 
 -- where no limit is asked for
 abbrev pub noLimits : Limits

@@ -28,8 +28,8 @@ used j w = total (sizeOn j w) (j .graph .tasks)
 unfoldable pub reaches : Job → ℕ → ℕ
 reaches j k =
     cond (eqb (j .worker (j .graph .from k)) (j .worker (j .graph .to k)))
-      (end j (j .graph .from k))
-      (j .arrives (end j (j .graph .from k)) (j .worker (j .graph .from k)) (j .worker (j .graph .to k)) (j .graph .amount k))
+    (end j (j .graph .from k))
+    (j .arrives (end j (j .graph .from k)) (j .worker (j .graph .from k)) (j .worker (j .graph .to k)) (j .graph .amount k))
 
 -- rule 1, of a task: its worker number is below the number of workers
 abbrev pub Placed : Job → ℕ → Type 0
@@ -49,6 +49,10 @@ Apart j t u = j .worker t ≡ j .worker u → (end j t ≤ j .start u) ⊎ (end 
 
 abbrev pub Alone : Job → ℕ → Type 0
 Alone j t = (u : ℕ) → u < j .graph .tasks → (t ≡ u → ⊥) → Apart j t u
+
+-- the same against the tasks after it alone
+abbrev pub AloneAhead : Job → ℕ → Type 0
+AloneAhead j t = (u : ℕ) → t < u → u < j .graph .tasks → Apart j t u
 
 -- rule 4, of a worker: the memory in use is at most its memory
 abbrev pub Roomy : Job → ℕ → Type 0

@@ -16,7 +16,12 @@ use graphs::Graph;
 use links::Link;
 
 // The length of a plan, or the first test that it fails.
-pub fn check<L: Link>(graph: &Graph, rows: &[Row], limits: Limits, link: &L) -> Result<u64, PlanFault>
+pub fn check<L: Link>(
+    graph: &Graph,
+    rows: &[Row],
+    limits: Limits,
+    link: &L,
+) -> Result<u64, PlanFault>
     ensures is { λ r. ⌜ r ≡ checked (length (now (rows .entry))) (job (modelOf (now (graph .entry))) (now (rows .entry)) limits (arrives (now (link .entry)))) ⌝ }
     ensures told { λ r. ⌜ Told (length (now (rows .entry))) (job (modelOf (now (graph .entry))) (now (rows .entry)) limits (arrives (now (link .entry)))) r ⌝ }
     ensures accepts { λ r. ⌜ Accepts (length (now (rows .entry))) (job (modelOf (now (graph .entry))) (now (rows .entry)) limits (arrives (now (link .entry)))) r ⌝ }

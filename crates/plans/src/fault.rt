@@ -37,7 +37,10 @@ pub impl From<Counted> for PlanFault as PlanFromCounted {
     ghost converts = { λ e r. r ≡ InRecord (e .fault) (e .«record») };
 
     fn from(e: Counted) -> PlanFault {
-        PlanFault::InRecord { fault: e.fault, record: e.record }
+        PlanFault::InRecord {
+            fault: e.fault,
+            record: e.record,
+        }
     }
 }
 
@@ -60,6 +63,11 @@ pub impl Refusal for PlanFault as PlanRefusal {
             PlanFault::Overfull { worker } => (19, worker as u64),
             PlanFault::LateInput { edge } => (20, edge as u64),
         };
-        Fault { number, layer: 4, place, record: 0 }
+        Fault {
+            number,
+            layer: 4,
+            place,
+            record: 0,
+        }
     }
 }

@@ -12,7 +12,14 @@ use graphs::Task;
 pub(crate) fn row_of(rows: &[Row], t: usize) -> Row
     ensures { λ r. ⌜ r ≡ getD (now (rows .entry)) t noRow ⌝ }
 {
-    if t < rows.len() { rows[t] } else { Row { worker: 0, start: 0 } }
+    if t < rows.len() {
+        rows[t]
+    } else {
+        Row {
+            worker: 0,
+            start: 0,
+        }
+    }
 }
 
 // The end of task t, or the largest u64 where the end is above that.

@@ -6,7 +6,7 @@ ghost use Rattle.std.specs.Orderings.{Decides};
 ghost use Rattle.graphs.specs.Model.{model, noTask};
 ghost use Rattle.graphs.specs.Graphs.{modelOf};
 ghost use Rattle.plans.specs.Jobs.{job, noLimits, unlinked};
-ghost use Rattle.plans.specs.Rules.{InTime, Alone, Roomy, Fed, Each, Found, used, reaches};
+ghost use Rattle.plans.specs.Rules.{InTime, Alone, AloneAhead, Roomy, Fed, Each, Found, used, reaches};
 use crate::rows::end_of;
 use crate::rows::row_of;
 use crate::types::Limits;
@@ -15,17 +15,17 @@ use graphs::Graph;
 use graphs::Task;
 use links::Link;
 
-// Whether no other task shares the worker of t, and a tick with it.
-fn is_alone(tasks: &[Task], rows: &[Row], t: usize) -> bool
+// Whether no task after t shares the worker of t, and a tick with it.
+fn is_alone_ahead(tasks: &[Task], rows: &[Row], t: usize) -> bool
     requires { ⌜ t < length (now tasks) ⌝ ∗ ⌜ Each (InTime (unlinked (model (now tasks) []) (now rows) 0 0)) (length (now tasks)) ⌝ }
-    ensures { λ r. ⌜ Decides r (Alone (unlinked (model (now (tasks .entry)) []) (now (rows .entry)) 0 0) t) ⌝ }
+    ensures { λ r. ⌜ Decides r (AloneAhead (unlinked (model (now (tasks .entry)) []) (now (rows .entry)) 0 0) t) ⌝ }
 {
     let row = row_of(rows, t);
     let end = end_of(tasks, rows, t);
-    for u in 0..tasks.len() {
+    for u in t + 1..tasks.len() {
         let other = row_of(rows, u);
-        if u != t && other.worker == row.worker {
-            if other.start < end && row.start < end_of(tasks, rows, u) {
+        if other.worker == row.worker && other.start < end {
+            if row.start < end_of(tasks, rows, u) {
                 return false;
             }
         }
@@ -33,14 +33,14 @@ fn is_alone(tasks: &[Task], rows: &[Row], t: usize) -> bool
     true
 }
 
-// Rule 3: the lowest task that shares a tick with another on its worker.
+// Rule 3: the lowest task that shares a tick with another on its worker, which comes after it, since it is the lowest.
 pub(crate) fn overlapping(graph: &Graph, rows: &[Row]) -> Option<usize>
     requires { ⌜ Each (InTime (unlinked (modelOf (now graph)) (now rows) 0 0)) (modelOf (now graph) .tasks) ⌝ }
     ensures { λ r. ⌜ Found (Alone (unlinked (modelOf (now (graph .entry))) (now (rows .entry)) 0 0)) (modelOf (now (graph .entry)) .tasks) r ⌝ }
 {
     let tasks = graph.tasks();
     for t in 0..tasks.len() {
-        if !is_alone(tasks, rows, t) {
+        if !is_alone_ahead(tasks, rows, t) {
             return Some(t);
         }
     }
@@ -84,7 +84,11 @@ fn reach_of<L: Link>(graph: &Graph, rows: &[Row], link: &L, k: usize) -> u64
     let end = end_of(graph.tasks(), rows, edge.from);
     let from = row_of(rows, edge.from).worker;
     let to = row_of(rows, edge.to).worker;
-    if from == to { end } else { link.arrival(end, from, to, edge.amount) }
+    if from == to {
+        end
+    } else {
+        link.arrival(end, from, to, edge.amount)
+    }
 }
 
 // Rule 5: the first edge whose input comes after the start of its target.

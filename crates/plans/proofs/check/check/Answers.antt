@@ -3,6 +3,7 @@ use Rattle.plans.proofs.check.check.Needs as need
 
 pub returns : need.returns
 returns g c = record {
-    is = told-is _ _ (c .tell .result) (c .tell .ensures);
-    told = c .tell .ensures;
-    accepts = told-accepts _ _ (c .tell .result) (c .tell .ensures) }
+  is = told-is _ _ (c .tell .result) (c .tell .ensures);
+  told = c .tell .ensures;
+  accepts = told-accepts _ _ (c .tell .result) (c .tell .ensures);
+}

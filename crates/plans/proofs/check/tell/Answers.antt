@@ -29,12 +29,14 @@ returns-in-Some-late-input g c = rule5 _ (none-allowed _ _ (omega arith) (c .in-
 
 pub returns : need.returns
 unfolding used reaches latest
-returns g c =
-    (none-allowed _ _ (omega arith) (c .in-rest .ensures tt),
-     record {
-       placed = c .in-rest-unplaced .ensures tt .found;
-       in-time = c .in-rest-above-ceiling .ensures tt .found;
-       apart = c .in-rest-overlapping .ensures tt;
-       roomy = c .in-rest-overfull .ensures tt;
-       fed = c .in-rest-late-input .ensures tt },
-     c .latest-end .ensures .exact (λ t l. omega (arith, c .in-rest-above-ceiling .ensures tt .found t l)))
+returns g c = (
+  none-allowed _ _ (omega arith) (c .in-rest .ensures tt),
+  record {
+    placed = c .in-rest-unplaced .ensures tt .found;
+    in-time = c .in-rest-above-ceiling .ensures tt .found;
+    apart = c .in-rest-overlapping .ensures tt;
+    roomy = c .in-rest-overfull .ensures tt;
+    fed = c .in-rest-late-input .ensures tt;
+  },
+  c .latest-end .ensures .exact (λ t l. omega (arith, c .in-rest-above-ceiling .ensures tt .found t l)),
+)
