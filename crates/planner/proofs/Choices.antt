@@ -8,11 +8,11 @@ use Rattle.std.specs.declared.option.Option.{Option}
 use Rattle.std.specs.declared.option.Option.the-variants.{Some, None}
 use Rattle.std.proofs.shelf.Tests.{cases-bool, cond-both, and-parts, not-true, not-false}
 use Rattle.std.proofs.shelf.Ways.{tells}
-use Rattle.scans.specs.Scans.{largest, orElse, lowest}
+use Rattle.scans.specs.Scans.{largest, lowest}
 use Rattle.scans.specs.Bids.{best, Chosen}
 use Rattle.scans.specs.declared.Aim.{Aim}
 use Rattle.scans.specs.declared.Aim.the-variants.{Smallest, Largest}
-use Rattle.scans.proofs.Scans.{largest-under, lowest-all}
+use Rattle.scans.proofs.Scans.{largest-under, lowest-found}
 use Rattle.scans.proofs.Bids.{best-is-chosen}
 use Rattle.graphs.specs.Model.{TaskGraph}
 use Rattle.links.specs.Links.{Arrives, Lawful}
@@ -20,21 +20,6 @@ use Rattle.plans.specs.declared.types.Limits.{Limits}
 use Rattle.steps.specs.Seats.{Seats, at, sits, host, endOf, Early, open?, free, endOn, fits, nominalAt, tLevel, reach, inputAt, startOn}
 use Rattle.steps.specs.Steps.{near, spent, roomy, step1, step2, step3, step4, choice}
 use Rattle.steps.specs.Steps.{orElse as orNext}
-
--- a lowest number that passes passes, and no lower one does
-abbrev Found : (ℕ → Bool) → ℕ → ℕ → Type 0
-Found p n t = (t < n) × (p t ≡ true) × ((k : ℕ) → k < t → p k ≡ false)
-
-found-more : (p : ℕ → Bool) (n t : ℕ) (o : Option ℕ) → lowest p n ≡ o → (lowest p n ≡ Some t → Found p n t) → orElse o (p n) n ≡ Some t → Found p (suc n) t
-found-more p n t (Some k) q ih e = let i = ih (q ∙ e) in (omega (arith, i .0), i .1, i .2)
-found-more p n t None q ih e = elim (cases-bool (p n)) [
-    inl y ↦ (let h : _≡_ {A = Option ℕ} (Some n) (Some t) = simp y at e in let i : n ≡ t = cc in
-      (omega arith, ap p (sym i) ∙ y, λ k l. lowest-all p n k q (omega arith)))
-  | inr x ↦ absurd (let h : _≡_ {A = Option ℕ} None (Some t) = simp x at e in let z : _≡_ {A = ℕ} 0 1 = cc in omega arith) ]
-
-pub lowest-some : (p : ℕ → Bool) (n t : ℕ) → lowest p n ≡ Some t → Found p n t
-lowest-some p zero t e = absurd (let z : _≡_ {A = ℕ} 0 1 = cc in omega arith)
-lowest-some p (suc n) t e = found-more p n t (lowest p n) refl (lowest-some p n t) e
 
 or-split : (a b : Option ℕ) (w : ℕ) → orNext a b ≡ Some w → (a ≡ Some w) ⊎ (b ≡ Some w)
 or-split None b w e = inr e
@@ -63,7 +48,7 @@ module _ (limits : Limits) (arrives : Arrives) (g : TaskGraph) (s : Seats) (t : 
                  let p = and-parts _ _ (h .1) in
                  (h .0, inl (p .0, and-parts _ _ (p .1) .0)))
       | inr q ↦ elim (or-split (step3 limits arrives g s t) _ w q) [
-          inl a ↦ (let h = lowest-some (λ v. not (open? g s v)) (limits .workers) w a in
+          inl a ↦ (let h = lowest-found (λ v. not (open? g s v)) (limits .workers) w a in
                    (h .0, inr (not-true _ (h .1), λ v l. not-false _ (h .2 v l))))
         | inr a ↦ (let h = wins Smallest (roomy limits arrives g s t) (free g s) (limits .workers) w a in
                    let p = and-parts _ _ (h .1) in (h .0, inl (p .0, p .1))) ] ] ]

@@ -74,7 +74,7 @@ module _ (limits : Limits) (arrives : Arrives) (g : TaskGraph) (small : (t : ℕ
     let a = largest-above (endOn g s w) (g .tasks) u l in
     omega (arith, simp y at a)
 
-  there-by : (s : Seats) (t w k : ℕ) → k < g .edges → g .to k ≡ t → reach arrives g s w k ≤ startOn arrives g s t w
+  there-by : (s : Seats) (t w k : ℕ) → k < g .edges → g .to k ≡ t → reach arrives g s w (g .from k) (g .amount k) ≤ startOn arrives g s t w
   unfolding startOn
   there-by s t w k l e =
     let a = largest-above (inputAt arrives g s t w) (g .edges) k l in
@@ -136,7 +136,7 @@ module _ (limits : Limits) (arrives : Arrives) (g : TaskGraph) (small : (t : ℕ
                    let e = mine v (simp i at y) in
                    let b = brought k l (p .0) in
                    let o = other (g .from k) b in
-                   (simp o b, simp (i, o) (omega (arith, is .1 .0, subst (λ x. reach arrives g s x k ≤ startOn arrives g s t w) e (there-by s t w k l (p .0))))))
+                   (simp o b, simp (i, o) (omega (arith, is .1 .0, subst (λ x. reach arrives g s x (g .from k) (g .amount k) ≤ startOn arrives g s t w) e (there-by s t w k l (p .0))))))
         | inr p ↦ (let i = p .1 in
                    let h = was .fed k v l (simp i at y) in
                    let o = other (g .from k) (h .0) in

@@ -4,3 +4,4 @@ pub mod Afters
 pub mod Laws
 pub mod Lines
 pub mod Queues
+pub mod Ready
