@@ -32,7 +32,7 @@ came false n (Ok p) was now a e t = (p, refl, ok-same a (answerOf p) e, t)
 
 module _ (g : TaskGraph) (file : List ℕ) where
   only : (was now : List Row) (r : Result (ℕ × ℕ) PlanFault) → Bytes file → r ≡ answered (length was) g file → now ≡ filled was g file
-    → made r (λ a. (p : Plan) × Fits g p × (file ≡ planBytes p) × (a ≡ answerOf p) × (now ≡ padded (length was) (p .rows)))
+      → made r (λ a. (p : Plan) × Fits g p × (file ≡ planBytes p) × (a ≡ answerOf p) × (now ≡ padded (length was) (p .rows)))
   only was now (Ok a) bytes e t =
       let k = came (ltb (length was) 512) (length was) (planAt g file) was now a e t in
       let u = un-plan file bytes g (k .0) (k .1) in

@@ -5,7 +5,7 @@ use mathlib.Core.List.{List, [], _∷_, _++_, append-assoc, append-nil}
 use Prim.Native.Nat.{ℕ, zero, suc, _+_, _-_, _^_, _≤_, _<_}
 use native.Mathlib.Omega.{arith}
 use lib.Dec.{ltb, eqb}
-use lib.ListN.{length, drop, getD, length-append, length-drop}
+use lib.ListN.{length, drop, length-append, length-drop}
 use Rattle.std.specs.Joined.{joined}
 use Rattle.std.specs.shelf.Lists.{All}
 use Rattle.std.specs.declared.result.Result.{Result}
@@ -16,7 +16,7 @@ use Rattle.std.proofs.shelf.Tests.{cond-true, cond-false, eq-eqb, eqb-true, le-
 use Rattle.numbers.specs.Numbers.{coded}
 use Rattle.numbers.proofs.Groups.{Bytes}
 use Rattle.numbers.proofs.Laid.{past}
-use Rattle.records.specs.Fields.{andThen, mapOk, mapErr, fieldAt}
+use Rattle.records.specs.Fields.{mapOk, mapErr, fieldAt}
 use Rattle.records.proofs.Fields.{Number, ok-same, un-then, un-mapErr, un-refused, field-at, un-field}
 use Rattle.graphs.specs.Model.{TaskGraph}
 use Rattle.plans.specs.declared.types.Row.{Row}
@@ -54,7 +54,7 @@ module _ (file : List ℕ) where
   head-field at low high v rest l h s e = ap (mapErr (inRow 0)) (field-at file at low high v rest l h s e)
 
   head-at : (n workers ticks : ℕ) (rest : List ℕ) → n ≤ 512 → Few workers → ticks ≤ 2 ^ 40 → file ≡ coded 2 ++ (coded n ++ (coded workers ++ (coded ticks ++ rest)))
-    → (h : Head) × (headAt file n ≡ Ok h) × (h .workers ≡ workers) × (h .ticks ≡ ticks) × (drop (h .next) file ≡ rest)
+      → (h : Head) × (headAt file n ≡ Ok h) × (h .workers ≡ workers) × (h .ticks ≡ ticks) × (drop (h .next) file ≡ rest)
   unfolding headAt
   head-at n workers ticks rest s f l e =
       let a₁ = 0 + length (coded 2) in
@@ -62,10 +62,13 @@ module _ (file : List ℕ) where
       let a₃ = a₂ + length (coded workers) in
       let e₁ = past file 0 (coded 2) _ e in
       let e₂ = past file a₁ (coded n) _ e₁ in
-      let e₃ = past file a₂ (coded workers) _ e₂ in
-      (headOf workers ticks a₃ (a₃ + length (coded ticks)),
-       rw (head-field 0 2 2 2 _ (omega arith) (omega arith) (omega arith) e, head-field a₁ 0 512 n _ (omega arith) s (omega arith) e₁, eq-eqb n n refl, head-field a₂ 1 16 workers _ (f .0) (f .1) (omega arith) e₂, head-field a₃ 0 (2 ^ 40) ticks rest (omega arith) l (omega arith) e₃),
-       refl, refl, past file a₃ (coded ticks) rest e₃)
+      let e₃ = past file a₂ (coded workers) _ e₂ in (
+        headOf workers ticks a₃ (a₃ + length (coded ticks)),
+        rw (head-field 0 2 2 2 _ (omega arith) (omega arith) (omega arith) e, head-field a₁ 0 512 n _ (omega arith) s (omega arith) e₁, eq-eqb n n refl, head-field a₂ 1 16 workers _ (f .0) (f .1) (omega arith) e₂, head-field a₃ 0 (2 ^ 40) ticks rest (omega arith) l (omega arith) e₃),
+        refl,
+        refl,
+        past file a₃ (coded ticks) rest e₃,
+      )
 
 fits-each : (g : TaskGraph) (p : Plan) → Fits g p → All (Fit (p .workers)) (p .rows)
 fits-each g p f = all-from-getD _ (p .rows) noRow (λ k h. (f .placed k (omega (arith, f .each)), f .early k (omega (arith, f .each))))
@@ -111,7 +114,7 @@ module _ (file : List ℕ) (bytes : Bytes file) where
       let fb = un-field file bytes (a .0 .1) 0 (2 ^ 40) (b .0) (b .1) in
       let d : (rowOf (a .0 .0) (b .0 .0), b .0 .1) ≡ p = ok-same _ _ (b .2) in
       let t : drop at file ≡ rowBytes (rowOf (a .0 .0) (b .0 .0)) ++ drop (b .0 .1) file =
-        fa .0 .bytes ∙ ap (λ x. coded (a .0 .0) ++ x) (fb .0 .bytes) ∙ sym (append-assoc (coded (a .0 .0)) (coded (b .0 .0)) (drop (b .0 .1) file)) in
+      fa .0 .bytes ∙ ap (λ x. coded (a .0 .0) ++ x) (fb .0 .bytes) ∙ sym (append-assoc (coded (a .0 .0)) (coded (b .0 .0)) (drop (b .0 .1) file)) in
       subst (RowThere workers at) d (t, (omega (arith, fa .2), fb .2))
 
   abbrev RowsThere : ℕ → ℕ → ℕ → List Row × ℕ → Type 0
@@ -125,18 +128,33 @@ module _ (file : List ℕ) (bytes : Bytes file) where
       let r = un-row workers at (a .0) s (un-mapErr (inRow k) _ (a .0) (a .1)) in
       let i = un-rows n workers (k + 1) (a .0 .1) (m .0) s (m .1) in
       let t : drop at file ≡ (rowBytes (a .0 .0) ++ joined rowBytes (m .0 .0)) ++ drop (m .0 .1) file =
-        r .0 ∙ ap (λ x. rowBytes (a .0 .0) ++ x) (i .0) ∙ sym (append-assoc (rowBytes (a .0 .0)) _ _) in
+      r .0 ∙ ap (λ x. rowBytes (a .0 .0) ++ x) (i .0) ∙ sym (append-assoc (rowBytes (a .0 .0)) _ _) in
       subst (RowsThere (suc n) workers at) (m .2) (t, ap suc (i .1), (r .1, i .2))
-
-  -- a head stands at the start of the file
-  pub record HeadThere (n : ℕ) (h : Head) : Type 0 where
-    pub whole : file ≡ coded 2 ++ (coded n ++ (coded (h .workers) ++ (coded (h .ticks) ++ drop (h .next) file)))
-    pub short : n ≤ 512
-    pub few : Few (h .workers)
-    pub low : h .ticks ≤ 2 ^ 40
 
   un-head-field : (at low high : ℕ) (p : ℕ × ℕ) → headField file at low high ≡ Ok p → Number file at p × (low ≤ p .0) × (p .0 ≤ high)
   un-head-field at low high p e = un-field file bytes at low high p (un-mapErr (inRow 0) (fieldAt file at low high) p e)
+
+  -- the workers and the length stand at an offset, within their limits
+  record LimitsThere (at : ℕ) (h : Head) : Type 0 where
+    there : drop at file ≡ coded (h .workers) ++ (coded (h .ticks) ++ drop (h .next) file)
+    few : Few (h .workers)
+    low : h .ticks ≤ 2 ^ 40
+
+  un-limits : (at : ℕ) (h : Head) → limitsAt file at ≡ Ok h → LimitsThere at h
+  un-limits at h e =
+      let w = un-then (headField file at 1 16) _ h e in
+      let l = un-then (headField file (w .0 .1) 0 (2 ^ 40)) _ h (w .2) in
+      let fw = un-head-field at 1 16 (w .0) (w .1) in
+      let fl = un-head-field (w .0 .1) 0 (2 ^ 40) (l .0) (l .1) in
+      let d : headOf (w .0 .0) (l .0 .0) (w .0 .1) (l .0 .1) ≡ h = ok-same _ _ (l .2) in
+      subst (LimitsThere at) d (record { there = fw .0 .bytes ∙ ap (λ x. coded (w .0 .0) ++ x) (fl .0 .bytes); few = (fw .1, fw .2); low = fl .2 })
+
+  -- a head stands at the start of the file
+  record HeadThere (n : ℕ) (h : Head) : Type 0 where
+    whole : file ≡ coded 2 ++ (coded n ++ (coded (h .workers) ++ (coded (h .ticks) ++ drop (h .next) file)))
+    short : n ≤ 512
+    few : Few (h .workers)
+    low : h .ticks ≤ 2 ^ 40
 
   un-head : (n : ℕ) (h : Head) → headAt file n ≡ Ok h → HeadThere n h
   unfolding headAt
@@ -144,22 +162,16 @@ module _ (file : List ℕ) (bytes : Bytes file) where
       let a = un-then (headField file 0 2 2) _ h e in
       let b = un-then (headField file (a .0 .1) 0 512) _ h (a .2) in
       let t = un-passed (eqb (b .0 .0) n) (limitsAt file (b .0 .1)) (NotOfGraph (a .0 .1)) h (b .2) in
-      let w = un-then (headField file (b .0 .1) 1 16) _ h (t .1) in
-      let l = un-then (headField file (w .0 .1) 0 (2 ^ 40)) _ h (w .2) in
       let fa = un-head-field 0 2 2 (a .0) (a .1) in
       let fb = un-head-field (a .0 .1) 0 512 (b .0) (b .1) in
-      let fw = un-head-field (b .0 .1) 1 16 (w .0) (w .1) in
-      let fl = un-head-field (w .0 .1) 0 (2 ^ 40) (l .0) (l .1) in
+      let l = un-limits (b .0 .1) h (t .1) in
       let two : a .0 .0 ≡ 2 = omega (arith, fa .1, fa .2) in
       let same = eqb-true (b .0 .0) n (t .0) in
-      let eb = fb .0 .bytes ∙ ap (λ x. coded x ++ drop (b .0 .1) file) same in
-      let d : headOf (w .0 .0) (l .0 .0) (w .0 .1) (l .0 .1) ≡ h = ok-same _ _ (l .2) in
-      subst (HeadThere n) d
       record {
-        whole = fa .0 .bytes ∙ ap (λ x. coded x ++ drop (a .0 .1) file) two ∙ ap (λ x. coded 2 ++ x) (eb ∙ ap (λ x. coded n ++ x) (fw .0 .bytes ∙ ap (λ x. coded (w .0 .0) ++ x) (fl .0 .bytes)));
+        whole = fa .0 .bytes ∙ ap (λ x. coded x ++ drop (a .0 .1) file) two ∙ ap (λ x. coded 2 ++ x) (fb .0 .bytes ∙ ap (λ x. coded x ++ drop (b .0 .1) file) same ∙ ap (λ x. coded n ++ x) (l .there));
         short = omega (arith, fb .2, same);
-        few = (fw .1, fw .2);
-        low = fl .2;
+        few = l .few;
+        low = l .low;
       }
 
   pub un-plan : (g : TaskGraph) (p : Plan) → planAt g file ≡ Ok p → Fits g p × (file ≡ planBytes p)
@@ -176,15 +188,17 @@ module _ (file : List ℕ) (bytes : Bytes file) where
       let tail : drop (h .0 .next) file ≡ joined rowBytes (q .0 .0) = r .0 ∙ ap (λ x. joined rowBytes rs ++ x) none ∙ append-nil _ in
       let d : record { workers = h .0 .workers; ticks = h .0 .ticks; rows = q .0 .0 } ≡ p = ok-same _ _ (b .1) in
       let s : file ≡ planBytes (record { workers = h .0 .workers; ticks = h .0 .ticks; rows = q .0 .0 }) =
-        t .whole ∙ ap (λ x. coded 2 ++ (coded (g .tasks) ++ (coded (h .0 .workers) ++ (coded (h .0 .ticks) ++ x)))) tail
-        ∙ ap (λ x. coded 2 ++ (coded x ++ (coded (h .0 .workers) ++ (coded (h .0 .ticks) ++ joined rowBytes rs)))) (sym (r .1)) in
-      subst (λ (x : Plan). Fits g x × (file ≡ planBytes x)) d
-      (record {
-        few = t .few;
-        short = omega (arith, t .short, r .1);
-        each = r .1;
-        placed = λ k l. all-getD (Fit (h .0 .workers)) rs k noRow (omega (arith, r .1)) (r .2) .0;
-        early = λ k l. all-getD (Fit (h .0 .workers)) rs k noRow (omega (arith, r .1)) (r .2) .1;
-        last = eqb-true (h .0 .ticks) _ (b .0);
-        low = t .low;
-      }, s)
+      t .whole ∙ ap (λ x. coded 2 ++ (coded (g .tasks) ++ (coded (h .0 .workers) ++ (coded (h .0 .ticks) ++ x)))) tail
+      ∙ ap (λ x. coded 2 ++ (coded x ++ (coded (h .0 .workers) ++ (coded (h .0 .ticks) ++ joined rowBytes rs)))) (sym (r .1)) in
+      subst (λ (x : Plan). Fits g x × (file ≡ planBytes x)) d (
+        record {
+          few = t .few;
+          short = omega (arith, t .short, r .1);
+          each = r .1;
+          placed = λ k l. all-getD (Fit (h .0 .workers)) rs k noRow (omega (arith, r .1)) (r .2) .0;
+          early = λ k l. all-getD (Fit (h .0 .workers)) rs k noRow (omega (arith, r .1)) (r .2) .1;
+          last = eqb-true (h .0 .ticks) _ (b .0);
+          low = t .low;
+        },
+        s,
+      )

@@ -85,8 +85,8 @@ abbrev pub closed : TaskGraph → List ℕ → Head → List Row × ℕ → Resu
 closed g file h q =
     cond (ltb (q .1) (length file)) (Err (inRow (g .tasks) (Trailing (q .1))))
     (cond (eqb (h .ticks) (latest (unlinked g (q .0) 0 0)))
-      (Ok (record { workers = h .workers; ticks = h .ticks; rows = q .0 }))
-      (Err (NotOfGraph (h .place))))
+    (Ok (record { workers = h .workers; ticks = h .ticks; rows = q .0 }))
+    (Err (NotOfGraph (h .place))))
 
 -- the plan of the graph's tasks that a file holds, or its first fault
 unfoldable pub planAt : TaskGraph → List ℕ → Result Plan PlanFault

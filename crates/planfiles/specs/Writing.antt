@@ -45,10 +45,10 @@ unfoldable pub written : TaskGraph → List Row → ℕ → ℕ → Result ℕ P
 written g rows workers room =
     cond (ltb (length rows) 512) (Err ShortTable)
     (cond (between 1 16 workers)
-      (unless (failing (placed? (unlinked g rows workers 0)) (g .tasks)) NoWorker
-      (unless (failing (inTime? (unlinked g rows workers 0)) (g .tasks)) AboveCeiling
-      (sized (length (planFile g rows workers)) room)))
-      (Err (Parameter 1)))
+    (unless (failing (placed? (unlinked g rows workers 0)) (g .tasks)) NoWorker
+    (unless (failing (inTime? (unlinked g rows workers 0)) (g .tasks)) AboveCeiling
+    (sized (length (planFile g rows workers)) room)))
+    (Err (Parameter 1)))
 
 -- the file, and then the later bytes; or all bytes as they were
 abbrev pub leaves : List ℕ → List ℕ → Result ℕ PlanFault → List ℕ

@@ -22,7 +22,10 @@ const MOST_TASKS: u64 = 512;
 
 const MOST_WORKERS: u64 = 16;
 
-const EMPTY: Row = Row { worker: 0, start: 0 };
+const EMPTY: Row = Row {
+    worker: 0,
+    start: 0,
+};
 
 fn read_row(file: &[u8], at: usize, workers: usize) -> Result<(Row, usize), RecordFault>
     requires { ⌜ Few workers ⌝ }
@@ -31,7 +34,13 @@ fn read_row(file: &[u8], at: usize, workers: usize) -> Result<(Row, usize), Reco
 {
     let (worker, next) = read_field(file, at, 0, workers as u64 - 1)?;
     let (start, next) = read_field(file, next, 0, CEILING)?;
-    Ok((Row { worker: worker as usize, start }, next))
+    Ok((
+        Row {
+            worker: worker as usize,
+            start,
+        },
+        next,
+    ))
 }
 
 fn read_head(file: &[u8], tasks: usize) -> Result<Head, PlanFault>
@@ -45,7 +54,12 @@ fn read_head(file: &[u8], tasks: usize) -> Result<Head, PlanFault>
     }
     let (workers, place) = with_record(read_field(file, next, 1, MOST_WORKERS), 0)?;
     let (ticks, next) = with_record(read_field(file, place, 0, CEILING), 0)?;
-    Ok(Head { workers: workers as usize, ticks, place, next })
+    Ok(Head {
+        workers: workers as usize,
+        ticks,
+        place,
+        next,
+    })
 }
 
 // Fills the first `tasks` rows of a table of zeros, and answers the offset after them.
@@ -74,7 +88,10 @@ fn read_into(file: &[u8], graph: &Graph, rows: &mut [Row]) -> Result<(usize, u64
     let head = read_head(file, tasks)?;
     let end = read_rows(file, head, tasks, rows)?;
     if end < file.len() {
-        return Err(PlanFault::InRecord { fault: RecordFault::Trailing { place: end }, record: tasks });
+        return Err(PlanFault::InRecord {
+            fault: RecordFault::Trailing { place: end },
+            record: tasks,
+        });
     }
     if head.ticks != latest_end(graph, rows) {
         return Err(PlanFault::NotOfGraph { place: head.place });

@@ -43,7 +43,12 @@ fn put_plan(out: &mut [u8], workers: usize, ticks: u64, rows: &[Row]) -> usize
 
 // Writes the file of the plan that the first rows are, and answers how many bytes it has: the later bytes stay.
 // A refused call alters nothing. What is written is read as that plan.
-pub fn write_plan(graph: &Graph, rows: &[Row], workers: usize, out: &mut [u8]) -> Result<usize, PlanFault>
+pub fn write_plan(
+    graph: &Graph,
+    rows: &[Row],
+    workers: usize,
+    out: &mut [u8],
+) -> Result<usize, PlanFault>
     ensures is { λ r. ⌜ r ≡ written (modelOf (now (graph .entry))) (now (rows .entry)) workers (length (now (out .entry))) ⌝ }
     ensures leaves { λ r. ⌜ now (out .exit) ≡ leaves (planFile (modelOf (now (graph .entry))) (now (rows .entry)) workers) (now (out .entry)) r ⌝ }
     ensures told { λ r. ⌜ Wrote (modelOf (now (graph .entry))) (now (rows .entry)) workers (now (out .entry)) (now (out .exit)) r ⌝ }

@@ -1,12 +1,9 @@
 use native.Mathlib.Omega.{arith}
-use mathlib.Core.Path.{_≡_, refl, ap, _∙_}
-use Prim.Native.Nat.{_≤_}
+use mathlib.Core.Path.{refl, ap, _∙_}
 use lib.ListN.{length}
 use Rattle.std.specs.declared.result.Result.the-variants.{Err}
 use Rattle.std.proofs.shelf.Results.{err-from-errBy}
 use Rattle.graphs.specs.Graphs.{modelOf}
-use Rattle.plans.specs.Jobs.{unlinked}
-use Rattle.plans.specs.Rules.{latest}
 use Rattle.planfiles.proofs.Loads.{no-head, no-rows, too-long, wrong-length, good}
 use Rattle.planfiles.proofs.read.read_into.Needs as need
 
@@ -18,7 +15,7 @@ returns-in-Break-head c =
 pub returns-in-Break-end : need.returns-in-Break-end
 returns-in-Break-end c =
     let p = err-from-errBy (c .from-residual-in-Break-end .result) (c .from-residual-in-Break-end .ensures .1) in
-    no-rows _ (modelOf (c .args .graph .now)) _ _ _ _ (ap length (c .tasks-tasks .ensures .is)) (c .in-Continue-head .head) (c .in-Continue-head .ensures tt .is) _ (c .in-Break-end .ensures tt .filled) (p .1 ∙ ap Err (p .2))
+    no-rows _ (modelOf (c .args .graph .now)) (c .args .file .now) (c .from-residual-in-Break-end .result) (c .read-rows .last .rows) _ (ap length (c .tasks-tasks .ensures .is)) (c .in-Continue-head .head) (c .in-Continue-head .ensures tt .is) _ (c .in-Break-end .ensures tt .filled) (p .1 ∙ ap Err (p .2))
 
 pub returns-then-end-file : need.returns-then-end-file
 returns-then-end-file c =

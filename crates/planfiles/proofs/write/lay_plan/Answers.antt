@@ -1,8 +1,8 @@
 use native.Mathlib.Omega.{arith}
 use borrow.Author.Needs.{needs}
-use mathlib.Core.Path.{_≡_, refl, sym, ap, _∙_}
+use mathlib.Core.Path.{_≡_, refl, ap}
 use mathlib.Core.List.{List}
-use Prim.Native.Nat.{ℕ, _-_, _^_, _≤_, _<_}
+use Prim.Native.Nat.{ℕ, _-_, _≤_}
 use native.Mathlib.Nat.{sub-zero}
 use lib.ListN.{length, take, length-take}
 use Rattle.graphs.specs.Graphs.{modelOf}
@@ -57,8 +57,9 @@ returns c =
     let count = ap length (c .tasks-tasks .ensures .is) in
     let n = needs-bytes g (c .args .rows .now) _ (c .args .workers) _ count last few (c .put-plan-needed .ensures) in
     record {
-      told =
-          (record { long = omega arith; few = search needs; placed = c .in-rest .ensures tt .found; in-time = c .in-rest-above-ceiling .ensures tt .found },
-          puts-stands (omega arith) (puts-same (same-plan g (c .args .rows .now) _ (c .args .workers) _ count last few) (c .put-plan .ensures)) (omega (arith, n)));
+      told = (
+        record { long = omega arith; few = search needs; placed = c .in-rest .ensures tt .found; in-time = c .in-rest-above-ceiling .ensures tt .found },
+        puts-stands (omega arith) (puts-same (same-plan g (c .args .rows .now) _ (c .args .workers) _ count last few) (c .put-plan .ensures)) (omega (arith, n)),
+      );
       few = few;
     }

@@ -1,4 +1,3 @@
-use Rattle.graphs.specs.Graphs.{modelOf}
 use Rattle.planfiles.proofs.Written.{wrote-is, wrote-leaves, written-back}
 use Rattle.planfiles.proofs.write.write_plan.Needs as need
 

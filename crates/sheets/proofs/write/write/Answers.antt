@@ -32,5 +32,5 @@ returns g c =
     let told = c .in-Continue-check .ensures tt .told in
     record {
       table = (omega arith, λ e q. absurd (let z : _≡_ {A = ℕ} 0 1 = cc in omega arith));
-      written = (omega arith, told .0, told .1, puts-stands (omega arith) (c .put-sheet .ensures) (omega (arith, c .sheet-len-needed .ensures)));
+      written = (omega arith, told .0, told .1, puts-stands (grind arith) (c .put-sheet .ensures) (omega (arith, c .sheet-len-needed .ensures)));
     }
