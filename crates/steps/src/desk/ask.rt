@@ -4,6 +4,7 @@ ghost use mathlib.Core.Bool.{false, _||_};
 ghost use Prim.Native.Nat.{ℕ, _<_, _≤_, _^_};
 ghost use lib.ListN.{getD};
 ghost use Rattle.graphs.specs.Graphs.{modelOf};
+ghost use Rattle.steps.specs.Desks.{graphOf};
 ghost use Rattle.steps.specs.Seats.{at, sits as sitsAt, host as hostOf, placed as isPlaced, endOf, fits as fitsOn, holds as holdsInput, closed as isClosed, Marks, tLevel, reach as reachOf, startOn};
 use crate::desk::Desk;
 use graphs::Edge;
@@ -66,7 +67,7 @@ impl<'a> Desk<'a> {
 
     // The end of t, or 0 where it is not placed.
     pub fn end(&self, t: usize) -> u64
-        ensures is { λ r. ⌜ r ≡ endOf (modelOf (now (now (self .entry) .graph))) (now (self .entry) .seats) t ⌝ }
+        ensures is { λ r. ⌜ r ≡ endOf (graphOf (now (self .entry))) (now (self .entry) .seats) t ⌝ }
         ensures low { λ r. ⌜ r ≤ 2 ^ 40 ⌝ }
     {
         match self.row(t) {
@@ -77,7 +78,7 @@ impl<'a> Desk<'a> {
 
     // The t-level of t.
     pub fn t_level<L: Link>(&self, link: &L, t: usize) -> u64
-        ensures is { λ r. ⌜ r ≡ tLevel (arrives (now (link .entry))) (modelOf (now (now (self .entry) .graph))) (now (self .entry) .seats) t ⌝ }
+        ensures is { λ r. ⌜ r ≡ tLevel (arrives (now (link .entry))) (graphOf (now (self .entry))) (now (self .entry) .seats) t ⌝ }
         ensures low { λ r. ⌜ r ≤ 2 ^ 41 ⌝ }
     {
         let inputs = self.graph.inputs(t);
@@ -90,7 +91,7 @@ impl<'a> Desk<'a> {
 
     // Whether w holds an input of t.
     pub(crate) fn holds(&self, t: usize, w: usize) -> bool
-        ensures { λ r. ⌜ r ≡ holdsInput (modelOf (now (now (self .entry) .graph))) (now (self .entry) .seats) t w ⌝ }
+        ensures { λ r. ⌜ r ≡ holdsInput (graphOf (now (self .entry))) (now (self .entry) .seats) t w ⌝ }
     {
         let inputs = self.graph.inputs(t);
         for e in inputs {
@@ -104,14 +105,14 @@ impl<'a> Desk<'a> {
     // Whether t fits on w.
     pub(crate) fn fits(&self, memory: u64, t: usize, w: usize) -> bool
         requires { ⌜ w < 16 ⌝ }
-        ensures { λ r. ⌜ r ≡ fitsOn memory (modelOf (now (now (self .entry) .graph))) (now (self .entry) .seats) t w ⌝ }
+        ensures { λ r. ⌜ r ≡ fitsOn memory (graphOf (now (self .entry))) (now (self .entry) .seats) t w ⌝ }
     {
         self.used[w] + self.graph.size(t) as u64 <= memory
     }
 
     // When what e brings is on w.
     fn reach<L: Link>(&self, link: &L, e: Edge, w: usize) -> u64
-        ensures { λ r. ⌜ r ≡ reachOf (arrives (now (link .entry))) (modelOf (now (now (self .entry) .graph))) (now (self .entry) .seats) w (e .from) (e .amount) ⌝ }
+        ensures { λ r. ⌜ r ≡ reachOf (arrives (now (link .entry))) (graphOf (now (self .entry))) (now (self .entry) .seats) w (e .from) (e .amount) ⌝ }
     {
         let end = self.end(e.from);
         if self.sits(e.from, w) {
@@ -124,7 +125,7 @@ impl<'a> Desk<'a> {
     // The start of t on w.
     pub(crate) fn start_on<L: Link>(&self, link: &L, t: usize, w: usize) -> u64
         requires { ⌜ w < 16 ⌝ }
-        ensures { λ r. ⌜ r ≡ startOn (arrives (now (link .entry))) (modelOf (now (now (self .entry) .graph))) (now (self .entry) .seats) t w ⌝ }
+        ensures { λ r. ⌜ r ≡ startOn (arrives (now (link .entry))) (graphOf (now (self .entry))) (now (self .entry) .seats) t w ⌝ }
     {
         let inputs = self.graph.inputs(t);
         let mut start = self.free[w];
@@ -144,7 +145,7 @@ impl<'a> Desk<'a> {
 
     // Whether every successor of every task on w is placed or marked.
     pub(crate) fn closed(&self, marks: &[bool; 512], w: usize) -> bool
-        ensures { λ r. ⌜ ((t : ℕ) → Marks (modelOf (now (now (self .entry) .graph))) t (now (marks .entry)) → r ≡ isClosed (modelOf (now (now (self .entry) .graph))) (now (self .entry) .seats) t w) ⌝ }
+        ensures { λ r. ⌜ ((t : ℕ) → Marks (graphOf (now (self .entry))) t (now (marks .entry)) → r ≡ isClosed (graphOf (now (self .entry))) (now (self .entry) .seats) t w) ⌝ }
     {
         let mut shut = true;
         'search: for u in 0..self.graph.tasks().len() {

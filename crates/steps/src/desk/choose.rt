@@ -4,7 +4,7 @@ ghost use Prim.Native.Nat.{ℕ, _<_, _≤_};
 ghost use Rattle.std.specs.declared.result.Result.the-variants.{Err};
 ghost use Rattle.scans.specs.Bids.{bidder, bids, best as bestOf};
 ghost use Rattle.scans.specs.declared.Aim.the-variants.{Smallest, Largest};
-ghost use Rattle.graphs.specs.Graphs.{modelOf};
+ghost use Rattle.steps.specs.Desks.{graphOf};
 ghost use Rattle.plans.specs.declared.fault.PlanFault.the-variants.{Parameter};
 ghost use Rattle.steps.specs.Seats.{Marks, free as freeTick, startOn};
 ghost use Rattle.steps.specs.Steps.{nearBy, spentBy, roomyBy, unopened, choice, seat as seatOf};
@@ -33,7 +33,7 @@ impl<'a> Desk<'a> {
     // What w bids in step 1: the start of t there.
     fn near<L: Link>(&self, memory: u64, link: &L, level: u64, t: usize, w: usize) -> Option<u64>
         requires { ⌜ w < 16 ⌝ }
-        ensures { λ r. ⌜ r ≡ bids (nearBy memory level (arrives (now (link .entry))) (modelOf (now (now (self .entry) .graph))) (now (self .entry) .seats) t w) (startOn (arrives (now (link .entry))) (modelOf (now (now (self .entry) .graph))) (now (self .entry) .seats) t w) ⌝ }
+        ensures { λ r. ⌜ r ≡ bids (nearBy memory level (arrives (now (link .entry))) (graphOf (now (self .entry))) (now (self .entry) .seats) t w) (startOn (arrives (now (link .entry))) (graphOf (now (self .entry))) (now (self .entry) .seats) t w) ⌝ }
     {
         if !self.open[w] || !self.holds(t, w) {
             return None;
@@ -47,9 +47,9 @@ impl<'a> Desk<'a> {
 
     // What w bids in step 2, given the marks of the successors of t: its free tick.
     fn spent(&self, memory: u64, level: u64, marks: &[bool; 512], t: usize, w: usize) -> Option<u64>
-        requires marked { ⌜ Marks (modelOf (now (now self .graph))) t (now marks) ⌝ }
+        requires marked { ⌜ Marks (graphOf (now self)) t (now marks) ⌝ }
         requires worker { ⌜ w < 16 ⌝ }
-        ensures { λ r. ⌜ r ≡ bids (spentBy memory level (modelOf (now (now (self .entry) .graph))) (now (self .entry) .seats) t w) (freeTick (modelOf (now (now (self .entry) .graph))) (now (self .entry) .seats) w) ⌝ }
+        ensures { λ r. ⌜ r ≡ bids (spentBy memory level (graphOf (now (self .entry))) (now (self .entry) .seats) t w) (freeTick (graphOf (now (self .entry))) (now (self .entry) .seats) w) ⌝ }
     {
         if !self.open[w] || !self.fits(memory, t, w) {
             return None;
@@ -65,7 +65,7 @@ impl<'a> Desk<'a> {
     // What w bids in step 4: its free tick.
     fn roomy(&self, memory: u64, t: usize, w: usize) -> Option<u64>
         requires { ⌜ w < 16 ⌝ }
-        ensures { λ r. ⌜ r ≡ bids (roomyBy memory (modelOf (now (now (self .entry) .graph))) (now (self .entry) .seats) t w) (freeTick (modelOf (now (now (self .entry) .graph))) (now (self .entry) .seats) w) ⌝ }
+        ensures { λ r. ⌜ r ≡ bids (roomyBy memory (graphOf (now (self .entry))) (now (self .entry) .seats) t w) (freeTick (graphOf (now (self .entry))) (now (self .entry) .seats) w) ⌝ }
     {
         if !self.open[w] || !self.fits(memory, t, w) {
             None
@@ -77,7 +77,7 @@ impl<'a> Desk<'a> {
     // Step 1: the smallest start strictly below the level, among the open workers that hold an input of t and fit.
     fn first<L: Link>(&self, limits: Limits, link: &L, level: u64, t: usize) -> Option<usize>
         requires { ⌜ limits .workers ≤ 16 ⌝ }
-        ensures { λ r. ⌜ r ≡ bestOf Smallest (nearBy (limits .memory) level (arrives (now (link .entry))) (modelOf (now (now (self .entry) .graph))) (now (self .entry) .seats) t) (startOn (arrives (now (link .entry))) (modelOf (now (now (self .entry) .graph))) (now (self .entry) .seats) t) (limits .workers) ⌝ }
+        ensures { λ r. ⌜ r ≡ bestOf Smallest (nearBy (limits .memory) level (arrives (now (link .entry))) (graphOf (now (self .entry))) (now (self .entry) .seats) t) (startOn (arrives (now (link .entry))) (graphOf (now (self .entry))) (now (self .entry) .seats) t) (limits .workers) ⌝ }
     {
         let mut best: Option<Bid> = None;
         for w in 0..limits.workers {
@@ -94,9 +94,9 @@ impl<'a> Desk<'a> {
     // Step 2: the largest free tick, among the open workers that fit, are free by the level, and whose tasks'
     // successors are placed or marked.
     fn second(&self, limits: Limits, level: u64, marks: &[bool; 512], t: usize) -> Option<usize>
-        requires marked { ⌜ Marks (modelOf (now (now self .graph))) t (now marks) ⌝ }
+        requires marked { ⌜ Marks (graphOf (now self)) t (now marks) ⌝ }
         requires few { ⌜ limits .workers ≤ 16 ⌝ }
-        ensures { λ r. ⌜ r ≡ bestOf Largest (spentBy (limits .memory) level (modelOf (now (now (self .entry) .graph))) (now (self .entry) .seats) t) (freeTick (modelOf (now (now (self .entry) .graph))) (now (self .entry) .seats)) (limits .workers) ⌝ }
+        ensures { λ r. ⌜ r ≡ bestOf Largest (spentBy (limits .memory) level (graphOf (now (self .entry))) (now (self .entry) .seats) t) (freeTick (graphOf (now (self .entry))) (now (self .entry) .seats)) (limits .workers) ⌝ }
     {
         let mut best: Option<Bid> = None;
         for w in 0..limits.workers {
@@ -113,7 +113,7 @@ impl<'a> Desk<'a> {
     // Step 3: the lowest unopened worker.
     fn third(&self, workers: usize) -> Option<usize>
         requires { ⌜ workers ≤ 16 ⌝ }
-        ensures { λ r. ⌜ r ≡ unopened (modelOf (now (now (self .entry) .graph))) (now (self .entry) .seats) workers ⌝ }
+        ensures { λ r. ⌜ r ≡ unopened (graphOf (now (self .entry))) (now (self .entry) .seats) workers ⌝ }
     {
         for w in 0..workers {
             if !self.open[w] {
@@ -126,7 +126,7 @@ impl<'a> Desk<'a> {
     // Step 4: the smallest free tick, among the open workers that fit.
     fn fourth(&self, limits: Limits, t: usize) -> Option<usize>
         requires { ⌜ limits .workers ≤ 16 ⌝ }
-        ensures { λ r. ⌜ r ≡ bestOf Smallest (roomyBy (limits .memory) (modelOf (now (now (self .entry) .graph))) (now (self .entry) .seats) t) (freeTick (modelOf (now (now (self .entry) .graph))) (now (self .entry) .seats)) (limits .workers) ⌝ }
+        ensures { λ r. ⌜ r ≡ bestOf Smallest (roomyBy (limits .memory) (graphOf (now (self .entry))) (now (self .entry) .seats) t) (freeTick (graphOf (now (self .entry))) (now (self .entry) .seats)) (limits .workers) ⌝ }
     {
         let mut best: Option<Bid> = None;
         for w in 0..limits.workers {
@@ -138,7 +138,7 @@ impl<'a> Desk<'a> {
     // The worker of t, by the first step that gives one.
     fn choose<L: Link>(&self, limits: Limits, link: &L, t: usize) -> Option<usize>
         requires { ⌜ limits .workers ≤ 16 ⌝ }
-        ensures { λ r. ⌜ r ≡ choice limits (arrives (now (link .entry))) (modelOf (now (now (self .entry) .graph))) (now (self .entry) .seats) t ⌝ }
+        ensures { λ r. ⌜ r ≡ choice limits (arrives (now (link .entry))) (graphOf (now (self .entry))) (now (self .entry) .seats) t ⌝ }
     {
         let level = self.t_level(link, t);
         if let Some(w) = self.first(limits, link, level, t) {
@@ -157,7 +157,7 @@ impl<'a> Desk<'a> {
     // The row of t where the steps put it, or why there is none.
     fn seat_within<L: Link>(&self, limits: Limits, link: &L, t: usize) -> Result<Row, PlanFault>
         requires { ⌜ limits .workers ≤ 16 ⌝ }
-        ensures { λ r. ⌜ r ≡ seatOf limits (arrives (now (link .entry))) (modelOf (now (now (self .entry) .graph))) (now (self .entry) .seats) t ⌝ }
+        ensures { λ r. ⌜ r ≡ seatOf limits (arrives (now (link .entry))) (graphOf (now (self .entry))) (now (self .entry) .seats) t ⌝ }
     {
         match self.choose(limits, link, t) {
             None => Err(PlanFault::NoneFits { task: t }),
@@ -174,9 +174,9 @@ impl<'a> Desk<'a> {
 
     // The row of t by the four steps; there are at most 16 workers.
     pub fn seat<L: Link>(&self, limits: Limits, link: &L, t: usize) -> Result<Row, PlanFault>
-        ensures is { λ r. ⌜ (limits .workers ≤ 16 → r ≡ seatOf limits (arrives (now (link .entry))) (modelOf (now (now (self .entry) .graph))) (now (self .entry) .seats) t) ⌝ }
+        ensures is { λ r. ⌜ (limits .workers ≤ 16 → r ≡ seatOf limits (arrives (now (link .entry))) (graphOf (now (self .entry))) (now (self .entry) .seats) t) ⌝ }
         ensures refused { λ r. ⌜ (16 < limits .workers → r ≡ Err (Parameter 1)) ⌝ }
-        ensures words { λ _. ⌜ InWords limits (arrives (now (link .entry))) (modelOf (now (now (self .entry) .graph))) (now (self .entry) .seats) t ⌝ }
+        ensures words { λ _. ⌜ InWords limits (arrives (now (link .entry))) (graphOf (now (self .entry))) (now (self .entry) .seats) t ⌝ }
     {
         if limits.workers > 16 {
             return Err(PlanFault::Parameter { position: 1 });

@@ -3,7 +3,7 @@ ghost use mathlib.Core.Path.{_≡_};
 ghost use mathlib.Core.Bool.{cond};
 ghost use Prim.Native.Nat.{_<_};
 ghost use Rattle.std.specs.Orderings.{Decides};
-ghost use Rattle.graphs.specs.Graphs.{modelOf};
+ghost use Rattle.steps.specs.Desks.{graphOf};
 ghost use Rattle.steps.specs.Seats.{nobody, placeable, put as putAt};
 ghost use Rattle.steps.specs.Laws.{Placeable};
 use crate::desk::Desk;
@@ -28,7 +28,7 @@ impl<'a> Desk<'a> {
 
     // Whether t may be placed at the row.
     fn may_place(&self, t: usize, row: Row) -> bool
-        ensures { λ r. ⌜ r ≡ placeable (modelOf (now (now (self .entry) .graph))) (now (self .entry) .seats) t row ⌝ }
+        ensures { λ r. ⌜ r ≡ placeable (graphOf (now (self .entry))) (now (self .entry) .seats) t row ⌝ }
     {
         if t >= self.graph.tasks().len() {
             return false;
@@ -42,7 +42,7 @@ impl<'a> Desk<'a> {
 
     fn put(&mut self, t: usize, row: Row)
         requires table { ⌜ t < 512 ⌝ }
-        requires may { ⌜ Placeable (modelOf (now (now self .graph))) (now self .seats) t row ⌝ }
+        requires may { ⌜ Placeable (graphOf (now self)) (now self .seats) t row ⌝ }
         ensures seats { λ _. ⌜ now (self .exit) .seats ≡ putAt (now (self .entry) .seats) t row ⌝ }
         ensures graph { λ _. ⌜ now (now (self .exit) .graph) ≡ now (now (self .entry) .graph) ⌝ }
     {
@@ -59,8 +59,8 @@ impl<'a> Desk<'a> {
     // Places t at the row, and answers true, where t is a task that is not placed, the worker is below 16, and the
     // end is not above the ceiling. Else it answers false and places nothing.
     pub fn place(&mut self, t: usize, row: Row) -> bool
-        ensures is { λ r. ⌜ r ≡ placeable (modelOf (now (now (self .entry) .graph))) (now (self .entry) .seats) t row ⌝ }
-        ensures words { λ r. ⌜ Decides r (Placeable (modelOf (now (now (self .entry) .graph))) (now (self .entry) .seats) t row) ⌝ }
+        ensures is { λ r. ⌜ r ≡ placeable (graphOf (now (self .entry))) (now (self .entry) .seats) t row ⌝ }
+        ensures words { λ r. ⌜ Decides r (Placeable (graphOf (now (self .entry))) (now (self .entry) .seats) t row) ⌝ }
         ensures seats { λ r. ⌜ now (self .exit) .seats ≡ cond r (putAt (now (self .entry) .seats) t row) (now (self .entry) .seats) ⌝ }
         ensures graph { λ _. ⌜ now (now (self .exit) .graph) ≡ now (now (self .entry) .graph) ⌝ }
     {
