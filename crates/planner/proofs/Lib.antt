@@ -5,3 +5,4 @@ pub mod Laws
 pub mod Lines
 pub mod Queues
 pub mod Ready
+pub mod Turning

@@ -16,8 +16,9 @@ use Rattle.edges.specs.declared.edge.Edge.{Edge}
 use Rattle.edges.specs.Edges.{noEdge, into, outOf, Within}
 use Rattle.graphs.specs.declared.types.Task.{Task}
 use Rattle.graphs.specs.Model.{TaskGraph, model, Known, Sound}
+use Rattle.levels.specs.Levels.{nominal}
 use Rattle.links.specs.Links.{Arrives, Lawful}
-use Rattle.steps.specs.Seats.{Seats, at, sits, host, placed, endOf, Early, free, endOn, inUse, sizeOn, follows, Marks, holds, settled, shut, closed, nominal, nominalAt, tLevel, reach, inputAt, startOn}
+use Rattle.steps.specs.Seats.{Seats, at, sits, host, placed, endOf, Early, free, endOn, inUse, sizeOn, follows, Marks, holds, settled, shut, closed, nominalAt, tLevel, reach, inputAt, startOn}
 
 module _ (ts : List Task) (es : List Edge) where
   pub follows-is : (t v : ℕ) → follows (model ts es) t v ≡ someIn (λ (e : Edge). eqb (e .to) v) (outOf es t)

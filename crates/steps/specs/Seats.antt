@@ -10,6 +10,7 @@ use Rattle.std.specs.declared.option.Option.{Option}
 use Rattle.std.specs.declared.option.Option.the-variants.{Some, None}
 use Rattle.scans.specs.Scans.{largest, total, some, every}
 use Rattle.graphs.specs.Model.{TaskGraph}
+use Rattle.levels.specs.Levels.{nominal}
 use Rattle.links.specs.Links.{Arrives}
 use Rattle.plans.specs.declared.types.Row.{Row}
 
@@ -107,10 +108,6 @@ module _ (g : TaskGraph) (s : Seats) where
 
   unfoldable pub closed : ℕ → ℕ → Bool
   closed t w = every (shut t w) (g .edges)
-
--- the nominal cost of an edge: departure 0, worker 0 to worker 1
-abbrev pub nominal : Arrives → TaskGraph → ℕ → ℕ
-nominal arrives g k = arrives 0 0 1 (g .amount k)
 
 module _ (arrives : Arrives) (g : TaskGraph) (s : Seats) where
   -- the t-level of t: the largest, over its inputs, of end plus nominal cost, or 0
