@@ -6,3 +6,4 @@ pub mod Lines
 pub mod Queues
 pub mod Ready
 pub mod Turning
+pub mod Outcomes
