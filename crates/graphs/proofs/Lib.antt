@@ -1,3 +1,6 @@
 pub mod Sound
 pub mod Drafts
 pub mod Turns
+pub mod Accepted
+pub mod Encoded
+pub mod Places

@@ -21,7 +21,7 @@ use Rattle.records.specs.Records.{Item, task, edge, end, recordAt}
 use Rattle.graphs.specs.declared.types.Task.{Task}
 use Rattle.graphs.specs.declared.fault.GraphFault.{GraphFault}
 use Rattle.graphs.specs.declared.fault.GraphFault.the-variants.{InRecord, Repeated, Cycle, Memory}
-use Rattle.graphs.specs.Parts.{Parts, partsOver, noParts}
+use Rattle.graphs.specs.Parts.{Parts, partsOver, noParts, WellFormed, fileBytes}
 
 -- ---- what is read
 
@@ -74,3 +74,9 @@ Denies g e = (e ≡ Memory) ⊎ (g ≡ Err e)
 abbrev pub Read : Result Parts GraphFault → Result (Unit {0}) GraphFault → Parts → Type 0
 Read g (Ok _) p = g ≡ Ok p
 Read g (Err e) p = Denies g e × (p ≡ noParts)
+
+-- the law: an accepted file is the encoding of the parts that are left, and of no others;
+-- a refused one, but for want of memory, is the encoding of no well-formed parts
+abbrev pub Lawful : List ℕ → Result (Unit {0}) GraphFault → Parts → Type 0
+Lawful file (Ok _) p = WellFormed p × (file ≡ fileBytes p) × ((q : Parts) → WellFormed q → file ≡ fileBytes q → q ≡ p)
+Lawful file (Err e) p = (e ≡ Memory) ⊎ ((q : Parts) → WellFormed q → file ≡ fileBytes q → ⊥)

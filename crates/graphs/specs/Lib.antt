@@ -4,3 +4,4 @@ pub mod Faults
 pub mod Parts
 pub mod Files
 pub mod Drafts
+pub mod Names

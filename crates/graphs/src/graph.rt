@@ -10,7 +10,7 @@ use crate::types::Name;
 use crate::types::Task;
 use edges::EdgeTable;
 
-
+pub mod read;
 pub mod view;
 
 // A task graph within its limits: no pair of tasks is joined twice, and each edge goes forward in `order`.

@@ -2,11 +2,13 @@
 mod draft;
 pub mod fault;
 pub mod graph;
+pub mod name;
 pub mod types;
 
 pub use edges::Edge;
 pub use fault::GraphFault;
 pub use fault::NameFault;
 pub use graph::Graph;
+pub use name::name_of;
 pub use types::Name;
 pub use types::Task;
