@@ -1,18 +1,16 @@
 -- A file that is accepted is the encoding of well-formed parts.
 use Prim.Native.Nat.{ℕ, zero, suc, _+_, _-_, _<_, _≤_, min}
 use mathlib.Core.Path.{_≡_, refl, sym, ap, subst, _∙_}
-use mathlib.Core.Bool.{Bool, true, false, cond, _&&_}
-use mathlib.Core.Logic.{_⊎_, inl, inr}
+use mathlib.Core.Bool.{false, _&&_}
+use mathlib.Core.Logic.{inl, inr}
 use mathlib.Core.List.{List, [], _∷_, _++_, append-assoc, append-nil}
 use native.Mathlib.Omega.{arith}
 use lib.Dec.{eqb}
 use lib.ListN.{length, getD, drop}
 use Rattle.std.specs.declared.option.Option.{Option}
 use Rattle.std.specs.declared.option.Option.the-variants.{Some, None}
-use Rattle.std.specs.declared.result.Result.{Result}
-use Rattle.std.specs.declared.result.Result.the-variants.{Ok, Err}
-use Rattle.std.specs.Joined.{joined}
-use Rattle.std.proofs.shelf.Lists.{getD-append-left, getD-push, length-push, length-drop, nil-from-length, drop-all, joined-more}
+use Rattle.std.specs.declared.result.Result.the-variants.{Ok}
+use Rattle.std.proofs.shelf.Lists.{getD-append-left, getD-push, length-push, nil-from-length, drop-all, joined-more}
 use Rattle.std.proofs.shelf.Tests.{cases-lt, both-ways, and-from, eq-eqb}
 use Rattle.scans.specs.Scans.{lowest}
 use Rattle.scans.proofs.Scans.{lowest-all}
@@ -25,18 +23,16 @@ use Rattle.orders.proofs.Results.{one-in}
 use Rattle.orders.proofs.Ways.{stuck-law}
 use Rattle.numbers.proofs.Groups.{Bytes}
 use Rattle.records.specs.declared.types.Head.{Head}
-use Rattle.records.specs.Fields.{andThen}
 use Rattle.records.specs.Heads.{Few, headBytes, headAt, Opens}
 use Rattle.records.specs.Records.{Item, task, edge, end, TaskFits, EdgeFits, taskBytes, edgeBytes, Holds, recordAt}
 use Rattle.records.proofs.Fields.{ok-same, un-then, un-mapErr, un-refused}
 use Rattle.records.proofs.Heads.{un-head}
 use Rattle.records.proofs.Records.{un-record}
 use Rattle.graphs.specs.declared.types.Task.{Task}
-use Rattle.graphs.specs.declared.fault.GraphFault.{GraphFault}
-use Rattle.graphs.specs.declared.fault.GraphFault.the-variants.{InRecord, Repeated, Cycle}
+use Rattle.graphs.specs.declared.fault.GraphFault.the-variants.{InRecord, Repeated}
 use Rattle.graphs.specs.Model.{noTask}
-use Rattle.graphs.specs.Parts.{Parts, partsOver, noParts, Limited, WellFormed, tasksBytes, edgesBytes, fileBytes}
-use Rattle.graphs.specs.Files.{inRecord, joinedIn, withTask, withEdge, added, partsFrom, allParts, refusedAt, uncycled, graphOf}
+use Rattle.graphs.specs.Parts.{Parts, noParts, Limited, WellFormed, tasksBytes, edgesBytes, fileBytes}
+use Rattle.graphs.specs.Files.{inRecord, joinedIn, withEdge, added, partsFrom, allParts, refusedAt, uncycled, graphOf}
 
 -- ---- one more at the end
 
@@ -54,8 +50,8 @@ each-push : {X : Type 0} (P : X → Type 0) (xs : List X) (x d : X) → ((k : �
 each-push P xs x d h p k l =
     let m = length-push xs x in
     elim (cases-lt k (length xs)) [
-      inl a ↦ subst P (sym (getD-append-left xs (x ∷ []) d k a)) (h k a)
-    | inr b ↦ subst P (sym (getD-push xs x d k (omega arith))) p
+      | inl a ↦ subst P (sym (getD-append-left xs (x ∷ []) d k a)) (h k a)
+      | inr b ↦ subst P (sym (getD-push xs x d k (omega arith))) p
     ]
 
 abbrev TaskAt : List Task → List (List ℕ) → ℕ → Type 0
@@ -66,10 +62,10 @@ tasks-push : (ts : List Task) (ns : List (List ℕ)) (x : Task) (n : List ℕ) �
 tasks-push ts ns x n e h f t l =
     let m = length-push ts x in
     elim (cases-lt t (length ts)) [
-      inl a ↦ subst (λ (y : Task). TaskFits (getD (ns ++ n ∷ []) t []) (y .time) (y .size)) (sym (getD-append-left ts (x ∷ []) noTask t a))
-      (subst (λ (y : List ℕ). TaskFits y (getD ts t noTask .time) (getD ts t noTask .size)) (sym (getD-append-left ns (n ∷ []) [] t (omega arith))) (h t a))
-    | inr b ↦ subst (λ (y : Task). TaskFits (getD (ns ++ n ∷ []) t []) (y .time) (y .size)) (sym (getD-push ts x noTask t (omega arith)))
-      (subst (λ (y : List ℕ). TaskFits y (x .time) (x .size)) (sym (getD-push ns n [] t (omega arith))) f)
+      | inl a ↦ subst (λ (y : Task). TaskFits (getD (ns ++ n ∷ []) t []) (y .time) (y .size)) (sym (getD-append-left ts (x ∷ []) noTask t a))
+          (subst (λ (y : List ℕ). TaskFits y (getD ts t noTask .time) (getD ts t noTask .size)) (sym (getD-append-left ns (n ∷ []) [] t (omega arith))) (h t a))
+      | inr b ↦ subst (λ (y : Task). TaskFits (getD (ns ++ n ∷ []) t []) (y .time) (y .size)) (sym (getD-push ts x noTask t (omega arith)))
+          (subst (λ (y : List ℕ). TaskFits y (x .time) (x .size)) (sym (getD-push ns n [] t (omega arith))) f)
     ]
 
 -- an edge whose pair no earlier edge joins repeats none
@@ -79,12 +75,12 @@ single-push es e f h j k r =
     let jl : j < length es = omega (arith, r .0, r .1) in
     let a = getD-append-left es (e ∷ []) noEdge j jl in
     elim (cases-lt k (length es)) [
-      inl l ↦ (let b = getD-append-left es (e ∷ []) noEdge k l in
-        h j k (r .0, l, ap (λ (x : Edge). x .from) (sym a) ∙ r .2 ∙ ap (λ (x : Edge). x .from) b, ap (λ (x : Edge). x .to) (sym a) ∙ r .3 ∙ ap (λ (x : Edge). x .to) b))
-    | inr g ↦ (let b = getD-push es e noEdge k (omega (arith, r .1)) in
-        let u : e .from ≡ getD es j noEdge .from = ap (λ (x : Edge). x .from) (sym b) ∙ sym (r .2) ∙ ap (λ (x : Edge). x .from) a in
-        let v : e .to ≡ getD es j noEdge .to = ap (λ (x : Edge). x .to) (sym b) ∙ sym (r .3) ∙ ap (λ (x : Edge). x .to) a in
-        both-ways (joinedIn es (e .from) (e .to)) f (one-in (λ (x : Edge). eqb (e .from) (x .from) && eqb (e .to) (x .to)) es j jl (and-from _ _ (eq-eqb _ _ u) (eq-eqb _ _ v))))
+      | inl l ↦ (let b = getD-append-left es (e ∷ []) noEdge k l in
+          h j k (r .0, l, ap (λ (x : Edge). x .from) (sym a) ∙ r .2 ∙ ap (λ (x : Edge). x .from) b, ap (λ (x : Edge). x .to) (sym a) ∙ r .3 ∙ ap (λ (x : Edge). x .to) b))
+      | inr g ↦ (let b = getD-push es e noEdge k (omega (arith, r .1)) in
+          let u : e .from ≡ getD es j noEdge .from = ap (λ (x : Edge). x .from) (sym b) ∙ sym (r .2) ∙ ap (λ (x : Edge). x .from) a in
+          let v : e .to ≡ getD es j noEdge .to = ap (λ (x : Edge). x .to) (sym b) ∙ sym (r .3) ∙ ap (λ (x : Edge). x .to) a in
+          both-ways (joinedIn es (e .from) (e .to)) f (one-in (λ (x : Edge). eqb (e .from) (x .from) && eqb (e .to) (x .to)) es j jl (and-from _ _ (eq-eqb _ _ u) (eq-eqb _ _ v))))
     ]
 
 -- ---- what holds at each record
@@ -119,7 +115,7 @@ module _ (file : List ℕ) (w : Bytes file) (h : Head) (few : Few h) where
         joins = g .joins;
         single = g .single;
         bytes = now ∙ more ∙ ap (λ (tb : List ℕ). (b ++ (tb ++ edgesBytes [])) ++ drop next file) (sym (tasksBytes-push (p .tasks) (p .names) x name (g .named)))
-          ∙ ap (λ (es : List Edge). (b ++ (tasksBytes (p .tasks ++ x ∷ []) (p .names ++ name ∷ []) ++ edgesBytes es)) ++ drop next file) (sym none);
+            ∙ ap (λ (es : List Edge). (b ++ (tasksBytes (p .tasks ++ x ∷ []) (p .names ++ name ∷ []) ++ edgesBytes es)) ++ drop next file) (sym none);
       }
   step read at p q (edge from to amount) next l g s e =
       let x : Edge = record { from = from; to = to; amount = amount } in
@@ -155,9 +151,11 @@ module _ (file : List ℕ) (w : Bytes file) (h : Head) (few : Few h) where
   all-read zero read at p q l g e =
       let u = un-then (inRecord read (recordAt file h read at)) (λ _. Ok p) q e in
       let s = came read at (u .0) (u .1) in
-      let k : read ≡ h .tasks + h .edges = omega arith in
-      (at, subst (λ (x : Parts). Going (h .tasks + h .edges) at x) (ok-same p q (u .2)) (subst (λ (x : ℕ). Going x at p) k g)
-      , ended at (u .0 .0) (u .0 .1) (subst (λ (x : ℕ). Holds file h x at (u .0 .0) (u .0 .1)) k s))
+      let k : read ≡ h .tasks + h .edges = omega arith in (
+        at,
+        subst (λ (x : Parts). Going (h .tasks + h .edges) at x) (ok-same p q (u .2)) (subst (λ (x : ℕ). Going x at p) k g),
+        ended at (u .0 .0) (u .0 .1) (subst (λ (x : ℕ). Holds file h x at (u .0 .0) (u .0 .1)) k s),
+      )
   all-read (suc n) read at p q l g e =
       let u = un-then (inRecord read (recordAt file h read at)) _ q e in
       let i = u .0 .0 in
@@ -188,9 +186,14 @@ module _ (file : List ℕ) (w : Bytes file) (h : Head) (few : Few h) where
   pub parts-limited : (q : Parts) → Opens file h → allParts file h ≡ Ok q → (file ≡ fileBytes q) × Limited q
   parts-limited q o e =
       let start : Going 0 (h .next) noParts = record {
-        tasks = omega arith; edges = omega arith; named = refl; fits = λ t l. absurd (omega arith); joins = λ k l. absurd (omega arith);
+        tasks = omega arith;
+        edges = omega arith;
+        named = refl;
+        fits = λ t l. absurd (omega arith);
+        joins = λ k l. absurd (omega arith);
         single = λ j k r. absurd (omega (arith, r .1));
-        bytes = o .bytes ∙ ap (λ (x : List ℕ). x ++ drop (h .next) file) (sym (append-nil (headBytes (h .tasks) (h .edges)))) } in
+        bytes = o .bytes ∙ ap (λ (x : List ℕ). x ++ drop (h .next) file) (sym (append-nil (headBytes (h .tasks) (h .edges))));
+      } in
       let r = all-read (h .tasks + h .edges) 0 (h .next) noParts q (omega arith) start e in
       (encoding (r .0) q (r .1) (r .2), limited (r .0) q (r .1))
 

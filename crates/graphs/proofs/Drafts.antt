@@ -46,8 +46,8 @@ short-push ns later n same l h t d tl =
     let m = ap length same in
     subst (λ (xs : List Name). getD xs t d .len ≤ 31) (sym same)
     (elim (cases-lt t (length ns)) [
-      inl a ↦ subst (λ (x : Name). x .len ≤ 31) (sym (getD-append-left ns (n ∷ []) d t a)) (h t d a)
-    | inr b ↦ subst (λ (x : Name). x .len ≤ 31) (sym (getD-push ns n d t (omega arith))) l
+      | inl a ↦ subst (λ (x : Name). x .len ≤ 31) (sym (getD-append-left ns (n ∷ []) d t a)) (h t d a)
+      | inr b ↦ subst (λ (x : Name). x .len ≤ 31) (sym (getD-push ns n d t (omega arith))) l
     ])
 
 pub task-push : (p : Parts) (ns later : List Name) (ts more : List Task) (t : Task) (n : Name) → p .tasks ≡ ts → p .names ≡ map spelled ns

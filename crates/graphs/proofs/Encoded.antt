@@ -1,7 +1,7 @@
 -- The encoding of well-formed parts is accepted, and read back.
-use Prim.Native.Nat.{ℕ, zero, suc, _+_, _-_, _<_, _≤_}
+use Prim.Native.Nat.{ℕ, suc, _+_, _-_, _<_, _≤_}
 use mathlib.Core.Path.{_≡_, refl, sym, ap, subst, _∙_}
-use mathlib.Core.Bool.{true, false, cond, _&&_}
+use mathlib.Core.Bool.{false, _&&_}
 use mathlib.Core.Logic.{inl, inr}
 use mathlib.Core.List.{List, [], _∷_, _++_, append-assoc, append-nil}
 use native.Mathlib.Omega.{arith}
@@ -22,22 +22,22 @@ use Rattle.numbers.specs.Numbers.{coded}
 use Rattle.numbers.proofs.Laid.{past}
 use Rattle.records.specs.declared.types.Head.{Head}
 use Rattle.records.specs.Fields.{andThen}
-use Rattle.records.specs.Heads.{headOf, headBytes, headAt, Few, Opens}
-use Rattle.records.specs.Records.{task, edge, end, TaskFits, EdgeFits, taskBytes, edgeBytes, Holds, recordAt}
+use Rattle.records.specs.Heads.{headOf, headBytes, Few, Opens}
+use Rattle.records.specs.Records.{task, edge, end, TaskFits, EdgeFits, taskBytes, edgeBytes, Holds}
 use Rattle.records.proofs.Heads.{head-at}
 use Rattle.records.proofs.Records.{record-at}
 use Rattle.graphs.specs.declared.types.Task.{Task}
 use Rattle.graphs.specs.declared.fault.GraphFault.the-variants.{Repeated}
 use Rattle.graphs.specs.Model.{noTask}
 use Rattle.graphs.specs.Parts.{Parts, partsOver, noParts, Limited, WellFormed, tasksBytes, edgesBytes, fileBytes}
-use Rattle.graphs.specs.Files.{inRecord, joinedIn, withTask, withEdge, added, partsFrom, allParts, refusedAt, uncycled, graphOf}
+use Rattle.graphs.specs.Files.{inRecord, joinedIn, withTask, withEdge, partsFrom, allParts, refusedAt, uncycled, graphOf}
 use Rattle.graphs.proofs.Turns.{turn-adds, turn-ends}
 use Rattle.graphs.proofs.Accepted.{within-limits}
 
 -- an edge that repeats no earlier one joins a pair that none joins
 not-joined : (es rest : List Edge) (e : Edge) → ((j k : ℕ) → Repeats (es ++ e ∷ rest) j k → ⊥) → joinedIn es (e .from) (e .to) ≡ false
 not-joined es rest e h = elim (cases-bool (joinedIn es (e .from) (e .to))) [
-    inl y ↦ (
+  | inl y ↦ (
       let f = find-in (λ (x : Edge). eqb (e .from) (x .from) && eqb (e .to) (x .to)) es y in
       let j = f .0 in
       let x = getD es j noEdge in
@@ -45,10 +45,14 @@ not-joined es rest e h = elim (cases-bool (joinedIn es (e .from) (e .to))) [
       let a = getD-append-left es (e ∷ rest) noEdge j (f .1) in
       let b = getD-at es e rest noEdge (length es) refl in
       let m = length-append es (e ∷ rest) in
-      absurd (h j (length es) (f .1, omega arith
-      , ap (λ (y : Edge). y .from) a ∙ sym (eqb-true _ _ (same .0)) ∙ ap (λ (y : Edge). y .from) (sym b)
-      , ap (λ (y : Edge). y .to) a ∙ sym (eqb-true _ _ (same .1)) ∙ ap (λ (y : Edge). y .to) (sym b))))
-  | inr n ↦ n ]
+      absurd (h j (length es) (
+        f .1,
+        omega arith,
+        ap (λ (y : Edge). y .from) a ∙ sym (eqb-true _ _ (same .0)) ∙ ap (λ (y : Edge). y .from) (sym b),
+        ap (λ (y : Edge). y .to) a ∙ sym (eqb-true _ _ (same .1)) ∙ ap (λ (y : Edge). y .to) (sym b),
+      )))
+  | inr n ↦ n
+]
 
 module _ (file : List ℕ) (h : Head) (few : Few h) where
   -- the tasks that stand at `at` are read, and what follows them stands next
@@ -57,10 +61,13 @@ module _ (file : List ℕ) (h : Head) (few : Few h) where
       → (next : ℕ) × (drop next file ≡ rest) × (partsFrom (length ts + n) file h read at q ≡ partsFrom n file h (h .tasks) next (partsOver (q .tasks ++ ts) (q .names ++ ns) (q .edges)))
   read-tasks [] [] n read at q rest e l f d =
       let k : read ≡ h .tasks = omega arith in
-      let m : 0 + n ≡ n = omega arith in
-      (at, d, ap (λ (x : ℕ). partsFrom x file h read at q) m ∙ ap (λ (x : ℕ). partsFrom n file h x at q) k
-      ∙ ap (λ (x : List Task). partsFrom n file h (h .tasks) at (partsOver x (q .names) (q .edges))) (sym (append-nil (q .tasks)))
-      ∙ ap (λ (x : List (List ℕ)). partsFrom n file h (h .tasks) at (partsOver (q .tasks ++ []) x (q .edges))) (sym (append-nil (q .names))))
+      let m : 0 + n ≡ n = omega arith in (
+        at,
+        d,
+        ap (λ (x : ℕ). partsFrom x file h read at q) m ∙ ap (λ (x : ℕ). partsFrom n file h x at q) k
+            ∙ ap (λ (x : List Task). partsFrom n file h (h .tasks) at (partsOver x (q .names) (q .edges))) (sym (append-nil (q .tasks)))
+            ∙ ap (λ (x : List (List ℕ)). partsFrom n file h (h .tasks) at (partsOver (q .tasks ++ []) x (q .edges))) (sym (append-nil (q .names))),
+      )
   read-tasks [] (m ∷ ns) n read at q rest e l f d = absurd (omega arith)
   read-tasks (t ∷ ts) [] n read at q rest e l f d = absurd (omega arith)
   read-tasks (t ∷ ts) (m ∷ ns) n read at q rest e l f d =
@@ -72,10 +79,13 @@ module _ (file : List ℕ) (h : Head) (few : Few h) where
       let s : Holds file h read at (task (at + length (coded (length m))) m (t .time) (t .size)) (at + length (taskBytes m (t .time) (t .size))) =
       record { due = (omega arith, refl, f 0 (omega arith)); bytes = d₁ ∙ ap (λ (x : List ℕ). b ++ x) (sym d₂); long = refl } in
       let turn = turn-adds file h read at q (length (t ∷ ts) + n) (length ts + n) i next (omega arith) (record-at file h read at i next few s) in
-      let r = read-tasks ts ns n (read + 1) next (withTask q t m) rest (omega arith) (omega arith) (λ k kl. f (suc k) (omega arith)) d₂ in
-      (r .0, r .1, turn ∙ r .2
-      ∙ ap (λ (x : List Task). partsFrom n file h (h .tasks) (r .0) (partsOver x ((q .names ++ m ∷ []) ++ ns) (q .edges))) (append-assoc (q .tasks) (t ∷ []) ts)
-      ∙ ap (λ (x : List (List ℕ)). partsFrom n file h (h .tasks) (r .0) (partsOver (q .tasks ++ t ∷ ts) x (q .edges))) (append-assoc (q .names) (m ∷ []) ns))
+      let r = read-tasks ts ns n (read + 1) next (withTask q t m) rest (omega arith) (omega arith) (λ k kl. f (suc k) (omega arith)) d₂ in (
+        r .0,
+        r .1,
+        turn ∙ r .2
+            ∙ ap (λ (x : List Task). partsFrom n file h (h .tasks) (r .0) (partsOver x ((q .names ++ m ∷ []) ++ ns) (q .edges))) (append-assoc (q .tasks) (t ∷ []) ts)
+            ∙ ap (λ (x : List (List ℕ)). partsFrom n file h (h .tasks) (r .0) (partsOver (q .tasks ++ t ∷ ts) x (q .edges))) (append-assoc (q .names) (m ∷ []) ns),
+      )
 
   -- the edges that stand at `at` are read, and then the end
   read-edges : (es : List Edge) (read at : ℕ) (q : Parts) → h .tasks ≤ read → read + length es ≡ h .tasks + h .edges
@@ -127,8 +137,9 @@ none-stuck : (p : Parts) → WellFormed p → lowest (stuck (p .edges) (length (
 none-stuck p w =
     let n = length (p .tasks) in
     lowest-none (stuck (p .edges) n) n (λ t tl. elim (cases-bool (stuck (p .edges) n t)) [
-      inl y ↦ absurd (w .acyclic t tl (stuck-law (p .edges) n (within-limits p (w .limited)) .only t tl y))
-    | inr f ↦ f ])
+      | inl y ↦ absurd (w .acyclic t tl (stuck-law (p .edges) n (within-limits p (w .limited)) .only t tl y))
+      | inr f ↦ f
+    ])
 
 pub encoded : (file : List ℕ) (p : Parts) → WellFormed p → file ≡ fileBytes p → graphOf file ≡ Ok p
 unfolding graphOf

@@ -112,14 +112,15 @@ known file p w e = let a = accepted file p w e in (a .0, a .1 .limited)
 pub head-known : (file : List ℕ) (p : Parts) → Bytes file → graphOf file ≡ Ok p → Opens file (headIn p)
 head-known file p w e = let k = known file p w e in opens file p (k .1) (k .0)
 
--- the record that stands where a walk over the tasks has come
-pub walked : (file : List ℕ) (p : Parts) (h : Head) (t at : ℕ) → Bytes file → graphOf file ≡ Ok p → h ≡ headIn p → at ≡ taskPlace p t → t < length (p .tasks)
-    → Few h × Holds file h t at (task (nameIn p t .1) (nameIn p t .0) (getD (p .tasks) t noTask .time) (getD (p .tasks) t noTask .size)) (taskPlace p (t + 1))
+-- the record of task t stands at `at`, and the next one after it
+abbrev pub Standing : List ℕ → Head → Parts → ℕ → ℕ → Type 0
+Standing file h p t at = Few h × Holds file h t at (task (nameIn p t .1) (nameIn p t .0) (getD (p .tasks) t noTask .time) (getD (p .tasks) t noTask .size)) (taskPlace p (t + 1))
+
+-- where a walk over the tasks has come
+pub walked : (file : List ℕ) (p : Parts) (h : Head) (t at : ℕ) → Bytes file → graphOf file ≡ Ok p → h ≡ headIn p → at ≡ taskPlace p t → t < length (p .tasks) → Standing file h p t at
 walked file p h t at w e a b l =
     let k = known file p w e in
-    let i = task (nameIn p t .1) (nameIn p t .0) (getD (p .tasks) t noTask .time) (getD (p .tasks) t noTask .size) in
-    (subst Few (sym a) (k .1 .few)
-    , subst (λ (x : ℕ). Holds file h t x i (taskPlace p (t + 1))) (sym b) (subst (λ (x : Head). Holds file x t (taskPlace p t) i (taskPlace p (t + 1))) (sym a) (at-task file p (k .1) (k .0) t l)))
+    subst (λ (x : ℕ). Standing file h p t x) (sym b) (subst (λ (x : Head). Standing file x p t (taskPlace p t)) (sym a) (k .1 .few, at-task file p (k .1) (k .0) t l))
 
 pub same-name : (a b : ℕ) (n m : List ℕ) (t z u v : ℕ) → task a n t z ≡ task b m u v → _≡_ {A = List ℕ × ℕ} (n, a) (m, b)
 same-name a b n m t z u v e = let x : n ≡ m = cc in let y : a ≡ b = cc in ap (λ (k : List ℕ). (k, a)) x ∙ ap (λ (k : ℕ). (m, k)) y

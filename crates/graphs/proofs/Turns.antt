@@ -1,6 +1,6 @@
 -- The reader: what came, one turn of it, the head, and the order.
-use Prim.Native.Nat.{ℕ, zero, suc, _+_, _-_, _<_, _≤_}
-use mathlib.Core.Path.{_≡_, refl, sym, ap, subst, _∙_}
+use Prim.Native.Nat.{ℕ, zero, suc, _+_, _-_}
+use mathlib.Core.Path.{_≡_, refl, sym, ap, _∙_}
 use mathlib.Core.Logic.{inl, inr}
 use mathlib.Core.List.{List}
 use native.Mathlib.Omega.{arith}
@@ -22,7 +22,6 @@ use Rattle.records.specs.Faults.{countedBy}
 use Rattle.records.specs.Fields.{andThen}
 use Rattle.records.specs.Heads.{headAt}
 use Rattle.records.specs.Records.{Item, recordAt}
-use Rattle.graphs.specs.declared.fault.GraphFault.{GraphFault}
 use Rattle.graphs.specs.declared.fault.GraphFault.the-variants.{InRecord}
 use Rattle.graphs.specs.Faults.{ofOrder}
 use Rattle.graphs.specs.Parts.{Parts}

@@ -1,7 +1,7 @@
 -- What a graph holds.
 use Prim.Native.Nat.{ℕ}
 use mathlib.Core.List.{List, map}
-use lib.ListN.{length, getD, take}
+use lib.ListN.{take}
 use Rattle.std.specs.Of.Vec.{vec-items}
 use Rattle.edges.specs.declared.edge.Edge.{Edge}
 use Rattle.graphs.specs.declared.types.Task.{Task}

@@ -26,7 +26,8 @@ model ts es = record {
   size = λ t. getD ts t noTask .size;
   from = λ k. getD es k noEdge .from;
   to = λ k. getD es k noEdge .to;
-  amount = λ k. getD es k noEdge .amount }
+  amount = λ k. getD es k noEdge .amount;
+}
 
 -- both ends of each edge are tasks
 abbrev pub Known : TaskGraph → Type 0

@@ -12,7 +12,6 @@ use Rattle.std.specs.declared.result.Result.the-variants.{Ok, Err}
 use Rattle.numbers.specs.Numbers.{coded}
 use Rattle.records.specs.Fields.{andThen, mapOk, mapErr}
 use Rattle.records.specs.Heads.{headBytes}
-use Rattle.graphs.specs.declared.fault.GraphFault.{GraphFault}
 use Rattle.graphs.specs.declared.fault.GraphFault.the-variants.{Memory}
 use Rattle.graphs.specs.declared.fault.NameFault.{NameFault}
 use Rattle.graphs.specs.declared.fault.NameFault.the-variants.{InGraph, NoTask}

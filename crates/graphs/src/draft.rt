@@ -1,6 +1,6 @@
 // The parts of a graph while its file is read.
 ghost use mathlib.Core.Path.{_≡_};
-ghost use Prim.Native.Nat.{ℕ, _<_, _≤_};
+ghost use Prim.Native.Nat.{_<_, _≤_};
 ghost use lib.ListN.{length};
 ghost use Rattle.std.specs.Results.{Cases};
 ghost use Rattle.std.specs.Vec.{made};
@@ -25,7 +25,6 @@ use records::types::Head;
 use records::types::Record;
 use std::alloc::AllocError;
 use std::alloc::Global;
-use std::alloc::Refused;
 
 // The tasks, names and edges so far, and the pairs that the edges join.
 #[derive(Drop)]
@@ -91,9 +90,12 @@ impl Draft {
         ensures { λ r. ⌜ Adds (added (seen («record» .entry)) at (drafted (now (self .entry)))) r (now (self .exit)) ⌝ }
     {
         match record {
-            Record::Task { name, time, size, .. } => {
-                self.add_task(name_from(name), Task { time, size })
-            }
+            Record::Task {
+                name,
+                time,
+                size,
+                ..
+            } => { self.add_task(name_from(name), Task { time, size }) }
             Record::Edge { from, to, amount } => self.add_edge(Edge { from, to, amount }, at),
             Record::End => Ok(()),
         }

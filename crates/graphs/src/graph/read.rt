@@ -51,7 +51,12 @@ fn build(heap: Global, draft: Draft) -> Result<Graph, GraphFault>
     requires tidy { ⌜ Tidy draft ⌝ }
     ensures { λ r. ⌜ Cases r (λ g. uncycled (drafted draft) ≡ Ok (partsOf g)) (Denies (uncycled (drafted draft))) ⌝ }
 {
-    let Draft { tasks, names, edges, pairs: _ } = draft;
+    let Draft {
+        tasks,
+        names,
+        edges,
+        pairs: _,
+    } = draft;
     let table = match EdgeTable::new(heap, tasks.len(), edges) {
         Ok(table) => table,
         Err(TableFault::Memory) => return Err(GraphFault::Memory),

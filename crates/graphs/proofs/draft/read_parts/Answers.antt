@@ -28,7 +28,8 @@ returns-in-Break-record c =
 pub add-requires : need.add-requires
 add-requires c κs = record {
   ready = ready (c .args .head) (c .loop-read .read) (length (c .args .file .now)) (c .loop-read .at) _ (c .pre) (c .in-Continue-record .ensures tt .law .due);
-  tidy = c .loop-read .inv .1 }
+  tidy = c .loop-read .inv .1;
+}
 
 pub returns-in-Break-add : need.returns-in-Break-add
 returns-in-Break-add c =
@@ -54,6 +55,7 @@ pub returns : need.returns
 returns c =
     let h = c .args .head in
     let came = got _ (recordAt (c .args .file .now) h (h .tasks + h .edges) (c .loop-read .at)) _ (c .in-Continue-next-record .ensures tt .is) in
-    let all : c .loop-read .read ≡ c .args .head .tasks + c .args .head .edges = omega (arith, c .loop-read .kept .read-end, c .loop-read-test .left) in
-    (c .loop-read .inv .0 ∙ turn-ends (c .args .file .now) h (c .loop-read .read) (c .loop-read .at) (drafted (c .loop-read .draft)) _ _ _ (omega (arith, all)) all came
-    , c .loop-read .inv .1)
+    let all : c .loop-read .read ≡ c .args .head .tasks + c .args .head .edges = omega (arith, c .loop-read .kept .read-end, c .loop-read-test .left) in (
+      c .loop-read .inv .0 ∙ turn-ends (c .args .file .now) h (c .loop-read .read) (c .loop-read .at) (drafted (c .loop-read .draft)) _ _ _ (omega (arith, all)) all came,
+      c .loop-read .inv .1,
+    )

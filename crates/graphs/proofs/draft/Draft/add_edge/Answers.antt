@@ -19,6 +19,7 @@ returns c =
     let tidy = c .pre .tidy in
     let pushed = c .in-Continue-push .ensures tt .items in
     let fresh : joinedIn (vec-items (c .args .self .now .edges)) (c .args .edge .from) (c .args .edge .to) ≡ false =
-    sym (tidy .pairs (e .from) (e .to) (c .pre .ends .0) (c .pre .ends .1)) ∙ sym (c .insert .ensures .was) ∙ c .if-insert .left in
-    ( cond-false _ _ _ fresh ∙ ap (λ (es : List Edge). Ok (partsOver (vec-items (d .tasks)) (map spelled (vec-items (d .names))) es)) (sym pushed)
-    , record { pairs = pairs-push (vec-items (d .edges)) _ e (held (d .pairs)) _ pushed (tidy .pairs) (c .insert .ensures .puts); short = tidy .short } )
+    sym (tidy .pairs (e .from) (e .to) (c .pre .ends .0) (c .pre .ends .1)) ∙ sym (c .insert .ensures .was) ∙ c .if-insert .left in (
+      cond-false _ _ _ fresh ∙ ap (λ (es : List Edge). Ok (partsOver (vec-items (d .tasks)) (map spelled (vec-items (d .names))) es)) (sym pushed),
+      record { pairs = pairs-push (vec-items (d .edges)) _ e (held (d .pairs)) _ pushed (tidy .pairs) (c .insert .ensures .puts); short = tidy .short },
+    )

@@ -18,16 +18,37 @@ ghost-result c =
     let l = c .pre .limited in
     let o = c .pre .ordered in
     let ns = vec-items (c .args .names) in
-    let named : length (vec-items (c .args .names)) ≡ length (vec-items (c .args .tasks)) = sym (length-map ns spelled) ∙ l .named in
-    ( l .few
-    , (c .pre .joined
-    , (named
-    , ((λ t tl. l .tasks t tl .timed)
-    , ((λ t tl. l .tasks t tl .sized)
-    , ((λ k kl. l .edges k kl .carried)
-    , ((λ t d tl. (some-byte ns t d tl (l .tasks t (omega (arith, named)) .named .0), c .pre .short t d tl))
-    , (l .single
-    , ((o .sized .1, o .sized .0)
-    , (o .ranked
-    , (o .places
-    , (o .forward, tt))))))))))))
+    let named : length (vec-items (c .args .names)) ≡ length (vec-items (c .args .tasks)) = sym (length-map ns spelled) ∙ l .named in (
+      l .few,
+      (
+        c .pre .joined,
+        (
+          named,
+          (
+            (λ t tl. l .tasks t tl .timed),
+            (
+              (λ t tl. l .tasks t tl .sized),
+              (
+                (λ k kl. l .edges k kl .carried),
+                (
+                  (λ t d tl. (some-byte ns t d tl (l .tasks t (omega (arith, named)) .named .0), c .pre .short t d tl)),
+                  (
+                    l .single,
+                    (
+                      (o .sized .1, o .sized .0),
+                      (
+                        o .ranked,
+                        (
+                          o .places,
+                          (o .forward, tt),
+                        ),
+                      ),
+                    ),
+                  ),
+                ),
+              ),
+            ),
+          ),
+        ),
+      ),
+    )

@@ -1,11 +1,10 @@
 use mathlib.Core.Path.{_≡_, sym, _∙_}
 use mathlib.Core.Logic.{inl, inr, ⊎-elim}
 use native.Mathlib.Omega.{arith}
-use Rattle.std.specs.declared.result.Result.the-variants.{Ok}
 use Rattle.std.proofs.shelf.Results.{err-from-errBy, made-at-ok, cases-weaker}
 use Rattle.numbers.proofs.Groups.{Bytes}
 use Rattle.records.specs.Fields.{andThen}
-use Rattle.records.specs.Heads.{headAt, Opens}
+use Rattle.records.specs.Heads.{Opens}
 use Rattle.graphs.specs.Drafts.{drafted}
 use Rattle.graphs.specs.Files.{allParts, uncycled, graphOf}
 use Rattle.graphs.proofs.Accepted.{parts-limited}
