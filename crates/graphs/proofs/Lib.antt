@@ -4,3 +4,4 @@ pub mod Turns
 pub mod Accepted
 pub mod Encoded
 pub mod Places
+pub mod Cycles

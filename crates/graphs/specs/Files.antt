@@ -13,6 +13,7 @@ use Rattle.std.specs.declared.result.Result.the-variants.{Ok, Err}
 use Rattle.scans.specs.Scans.{someIn, lowest}
 use Rattle.edges.specs.declared.edge.Edge.{Edge}
 use Rattle.orders.specs.Orders.{stuck}
+use Rattle.orders.specs.Cycles.{Cyclic}
 use Rattle.records.specs.declared.fault.RecordFault.{RecordFault}
 use Rattle.records.specs.declared.types.Head.{Head}
 use Rattle.records.specs.Fields.{andThen, mapErr}
@@ -21,7 +22,7 @@ use Rattle.records.specs.Records.{Item, task, edge, end, recordAt}
 use Rattle.graphs.specs.declared.types.Task.{Task}
 use Rattle.graphs.specs.declared.fault.GraphFault.{GraphFault}
 use Rattle.graphs.specs.declared.fault.GraphFault.the-variants.{InRecord, Repeated, Cycle, Memory}
-use Rattle.graphs.specs.Parts.{Parts, partsOver, noParts, WellFormed, fileBytes}
+use Rattle.graphs.specs.Parts.{Parts, partsOver, noParts, Limited, WellFormed, fileBytes}
 
 -- ---- what is read
 
@@ -80,3 +81,8 @@ Read g (Err e) p = Denies g e × (p ≡ noParts)
 abbrev pub Lawful : List ℕ → Result (Unit {0}) GraphFault → Parts → Type 0
 Lawful file (Ok _) p = WellFormed p × (file ≡ fileBytes p) × ((q : Parts) → WellFormed q → file ≡ fileBytes q → q ≡ p)
 Lawful file (Err e) p = (e ≡ Memory) ⊎ ((q : Parts) → WellFormed q → file ≡ fileBytes q → ⊥)
+
+-- a cycle is told of a file that is the encoding of parts within their limits:
+-- the task is the lowest that lies on a cycle of their edges or after one
+abbrev pub CycleIn : List ℕ → ℕ → Type 0
+CycleIn file t = (p : Parts) × Limited p × (file ≡ fileBytes p) × Cyclic (p .edges) t
