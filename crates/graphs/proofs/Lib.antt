@@ -1,1 +1,7 @@
 pub mod Sound
+pub mod Drafts
+pub mod Turns
+pub mod Accepted
+pub mod Encoded
+pub mod Places
+pub mod Cycles

@@ -1,6 +1,5 @@
 -- A task graph as numbers and functions: what planner, check, files and run speak of.
 use Prim.Native.Nat.{ℕ, _^_, _<_, _≤_}
-use mathlib.Core.Path.{_≡_}
 use mathlib.Core.List.{List}
 use lib.ListN.{length, getD}
 use Rattle.edges.specs.declared.edge.Edge.{Edge}
@@ -27,11 +26,8 @@ model ts es = record {
   size = λ t. getD ts t noTask .size;
   from = λ k. getD es k noEdge .from;
   to = λ k. getD es k noEdge .to;
-  amount = λ k. getD es k noEdge .amount }
-
--- edge k joins the pair that edge j, before it, joins
-abbrev pub Repeats : List Edge → ℕ → ℕ → Type 0
-Repeats es j k = (j < k) × (k < length es) × (getD es j noEdge .from ≡ getD es k noEdge .from) × (getD es j noEdge .to ≡ getD es k noEdge .to)
+  amount = λ k. getD es k noEdge .amount;
+}
 
 -- both ends of each edge are tasks
 abbrev pub Known : TaskGraph → Type 0

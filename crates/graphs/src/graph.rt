@@ -3,12 +3,14 @@ ghost use Prim.Native.Nat.{ℕ, _<_, _≤_, _^_};
 ghost use lib.ListN.{length, getD};
 ghost use Rattle.std.specs.Of.Vec.{vec-items as items};
 ghost use Rattle.edges.specs.Edges.{noEdge};
-ghost use Rattle.graphs.specs.Model.{noTask, Repeats};
+ghost use Rattle.orders.specs.PairSets.{Repeats};
+ghost use Rattle.graphs.specs.Model.{noTask};
 ghost use Rattle.graphs.specs.declared.types.Name.{Name};
 use crate::types::Name;
 use crate::types::Task;
 use edges::EdgeTable;
 
+pub mod read;
 pub mod view;
 
 // A task graph within its limits: no pair of tasks is joined twice, and each edge goes forward in `order`.

@@ -3,7 +3,7 @@ pub mod check;
 pub mod fault;
 mod rows;
 mod rules;
-mod scans;
+pub mod scans;
 pub mod types;
 
 pub use fault::PlanFault;

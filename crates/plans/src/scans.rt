@@ -10,13 +10,31 @@ use crate::types::Row;
 use graphs::Graph;
 use links::CEILING;
 
+fn first_unplaced(graph: &Graph, rows: &[Row], workers: usize) -> Option<usize>
+    ensures { λ r. ⌜ Found (Placed (unlinked (modelOf (now (graph .entry))) (now (rows .entry)) workers 0)) (modelOf (now (graph .entry)) .tasks) r ⌝ }
+{
+    for t in 0..graph.tasks().len() {
+        if row_of(rows, t).worker >= workers {
+            return Some(t);
+        }
+    }
+    None
+}
+
 // Rule 1: the lowest task whose worker number is not below the number of workers.
 pub fn unplaced(graph: &Graph, rows: &[Row], workers: usize) -> Option<usize>
     ensures is { λ r. ⌜ r ≡ failing (placed? (unlinked (modelOf (now (graph .entry))) (now (rows .entry)) workers 0)) (modelOf (now (graph .entry)) .tasks) ⌝ }
     ensures found { λ r. ⌜ Found (Placed (unlinked (modelOf (now (graph .entry))) (now (rows .entry)) workers 0)) (modelOf (now (graph .entry)) .tasks) r ⌝ }
 {
-    for t in 0..graph.tasks().len() {
-        if row_of(rows, t).worker >= workers {
+    first_unplaced(graph, rows, workers)
+}
+
+fn first_above(graph: &Graph, rows: &[Row]) -> Option<usize>
+    ensures { λ r. ⌜ Found (InTime (unlinked (modelOf (now (graph .entry))) (now (rows .entry)) 0 0)) (modelOf (now (graph .entry)) .tasks) r ⌝ }
+{
+    let tasks = graph.tasks();
+    for t in 0..tasks.len() {
+        if end_of(tasks, rows, t) > CEILING {
             return Some(t);
         }
     }
@@ -28,13 +46,7 @@ pub fn above_ceiling(graph: &Graph, rows: &[Row]) -> Option<usize>
     ensures is { λ r. ⌜ r ≡ failing (inTime? (unlinked (modelOf (now (graph .entry))) (now (rows .entry)) 0 0)) (modelOf (now (graph .entry)) .tasks) ⌝ }
     ensures found { λ r. ⌜ Found (InTime (unlinked (modelOf (now (graph .entry))) (now (rows .entry)) 0 0)) (modelOf (now (graph .entry)) .tasks) r ⌝ }
 {
-    let tasks = graph.tasks();
-    for t in 0..tasks.len() {
-        if end_of(tasks, rows, t) > CEILING {
-            return Some(t);
-        }
-    }
-    None
+    first_above(graph, rows)
 }
 
 // The latest end, or the largest u64 where that is above it: exact where no start is above the ceiling.

@@ -11,6 +11,7 @@ use Rattle.std.specs.shelf.Lists.{kept-by}
 use Rattle.std.proofs.shelf.Lists.{take-more, take-all}
 use Rattle.std.proofs.shelf.Tests.{cases-bool}
 use Rattle.scans.specs.Scans.{largest, some, every, largestIn, someIn, everyIn}
+use Rattle.scans.proofs.Scans.{some-one, every-not}
 
 or-assoc : (a b c : Bool) → ((a || b) || c) ≡ (a || (b || c))
 or-assoc true b c = refl
@@ -86,3 +87,10 @@ module _ {X : Type 0} where
 
   pub every-kept : (p q : X → Bool) (xs : List X) (d : X) → every (λ k. not (p (getD xs k d)) || q (getD xs k d)) (length xs) ≡ everyIn q (kept-by p xs)
   every-kept p q xs d = every-front (λ x. not (p x) || q x) xs d (length xs) (omega arith) ∙ ap (everyIn (λ x. not (p x) || q x)) (take-all (length xs) xs (omega arith)) ∙ everyIn-kept p q xs
+
+  -- one element that passes, or fails, decides
+  pub someIn-one : (p : X → Bool) (xs : List X) (i : ℕ) (d : X) → i < length xs → p (getD xs i d) ≡ true → someIn p xs ≡ true
+  someIn-one p xs i d l e = ap (someIn p) (sym (take-all (length xs) xs (omega arith))) ∙ sym (some-front p xs d (length xs) (omega arith)) ∙ some-one (λ k. p (getD xs k d)) (length xs) i l e
+
+  pub everyIn-not : (p : X → Bool) (xs : List X) (i : ℕ) (d : X) → i < length xs → p (getD xs i d) ≡ false → everyIn p xs ≡ false
+  everyIn-not p xs i d l e = ap (everyIn p) (sym (take-all (length xs) xs (omega arith))) ∙ sym (every-front p xs d (length xs) (omega arith)) ∙ every-not (λ k. p (getD xs k d)) (length xs) i l e

@@ -7,7 +7,7 @@ use native.Mathlib.Omega.{arith}
 use native.Mathlib.Numerals.{add-one}
 use Rattle.std.specs.declared.option.Option.{Option}
 use Rattle.std.specs.declared.option.Option.the-variants.{Some, None}
-use Rattle.std.proofs.shelf.Tests.{cases-lt, cases-eq, or-cases, or-parts, and-parts, and-right, or-right}
+use Rattle.std.proofs.shelf.Tests.{cases-lt, cases-eq, or-cases, or-parts, and-parts, and-cases, and-right, or-right}
 use Rattle.scans.specs.Scans.{largest, total, some, every, orElse, lowest}
 
 -- what holds of each number below n, and of n
@@ -132,3 +132,45 @@ both-none None false n e = (refl, refl)
 pub lowest-all : (p : ℕ → Bool) (n k : ℕ) → lowest p n ≡ None → k < n → p k ≡ false
 lowest-all p zero k e l = absurd (omega arith)
 lowest-all p (suc n) k e l = let h = both-none (lowest p n) (p n) n e in each-more (λ k. p k ≡ false) n (λ k i. lowest-all p n k (h .0) i) (h .1) k l
+
+pub every-fails : (p : ℕ → Bool) (n : ℕ) → every p n ≡ false → (k : ℕ) × (k < n) × (p k ≡ false)
+every-fails p zero e = absurd (let z : _≡_ {A = ℕ} 0 1 = cc in omega arith)
+every-fails p (suc n) e = elim (and-cases (every p n) (p n) e) [
+  | inl a ↦ (let h = every-fails p n a in (h .0, omega (arith, h .1), h .2))
+  | inr b ↦ (n, omega arith, b)
+]
+
+either-some : (o : Option ℕ) (b : Bool) (n k : ℕ) → orElse o b n ≡ Some k → (o ≡ Some k) ⊎ ((o ≡ None) × (b ≡ true) × (n ≡ k))
+either-some (Some j) b n k e = inl e
+either-some None true n k e = inr (refl, refl, cc)
+either-some None false n k e = absurd (let z : _≡_ {A = ℕ} 0 1 = cc in omega arith)
+
+-- what the scan finds passes, and none below it does
+pub lowest-found : (p : ℕ → Bool) (n k : ℕ) → lowest p n ≡ Some k → (k < n) × (p k ≡ true) × ((j : ℕ) → j < k → p j ≡ false)
+lowest-found p zero k e = absurd (let z : _≡_ {A = ℕ} 0 1 = cc in omega arith)
+lowest-found p (suc n) k e = elim (either-some (lowest p n) (p n) n k e) [
+  | inl a ↦ (let h = lowest-found p n k a in (omega (arith, h .0), h .1, h .2))
+  | inr b ↦ subst (λ (m : ℕ). (m < suc n) × (p m ≡ true) × ((j : ℕ) → j < m → p j ≡ false)) (b .2) (omega arith, b .1, λ j l. lowest-all p n j (b .0) l)
+]
+
+pub some-same : (p q : ℕ → Bool) (n : ℕ) → ((k : ℕ) → k < n → p k ≡ q k) → some p n ≡ some q n
+some-same p q zero e = refl
+some-same p q (suc n) e = let a = some-same p q n (λ k l. e k (omega arith)) in let b = e n (omega arith) in simp (a, b)
+
+or-swap : (a b c : Bool) → ((a || b) || c) ≡ ((a || c) || b)
+or-swap true b c = refl
+or-swap false true true = refl
+or-swap false true false = refl
+or-swap false false true = refl
+or-swap false false false = refl
+
+or-none : (a : Bool) → (a || false) ≡ a
+or-none true = refl
+or-none false = refl
+
+pub some-put : (p q : ℕ → Bool) (n t : ℕ) → t < n → p t ≡ false → ((u : ℕ) → (u ≡ t → ⊥) → q u ≡ p u) → some q n ≡ (some p n || q t)
+some-put p q zero t l z e = absurd (omega arith)
+some-put p q (suc n) t l z e = elim (cases-eq n t) [
+  | inl i ↦ (let a = some-same q p n (λ u v. e u (omega arith)) in let b : p n ≡ false = ap p i ∙ z in let c = ap q i in let f = or-none (some p n) in simp (a, b, c, f))
+  | inr ne ↦ (let a = some-put p q n t (omega arith) z e in let b = e n ne in simp (a, b) (or-swap (some p n) (q t) (p n)))
+]

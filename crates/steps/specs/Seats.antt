@@ -1,14 +1,16 @@
 -- Where the tasks placed so far sit, and what follows from it: free ticks, memory in use, levels and starts.
-use Prim.Native.Nat.{ℕ, _+_, _^_, _≤_, max}
+use Prim.Native.Nat.{ℕ, _+_, _^_, _≤_, _<_, max}
+use mathlib.Core.Path.{_≡_}
 use mathlib.Core.Bool.{Bool, true, false, cond, not, _&&_, _||_}
 use mathlib.Core.List.{List}
-use lib.Dec.{leb, eqb}
-use lib.ListN.{getD, replicate}
+use lib.Dec.{leb, ltb, eqb}
+use lib.ListN.{getD, set, replicate}
 use Rattle.std.specs.Options.{isSome}
 use Rattle.std.specs.declared.option.Option.{Option}
 use Rattle.std.specs.declared.option.Option.the-variants.{Some, None}
 use Rattle.scans.specs.Scans.{largest, total, some, every}
 use Rattle.graphs.specs.Model.{TaskGraph}
+use Rattle.levels.specs.Levels.{nominal}
 use Rattle.links.specs.Links.{Arrives}
 use Rattle.plans.specs.declared.types.Row.{Row}
 
@@ -45,6 +47,14 @@ endOf g s t = over (at s t) (g .time t)
 abbrev pub Early : TaskGraph → Seats → Type 0
 Early g s = (t : ℕ) → endOf g s t ≤ 2 ^ 40
 
+-- whether t may be placed at r
+unfoldable pub placeable : TaskGraph → Seats → ℕ → Row → Bool
+placeable g s t r = ltb t (g .tasks) && (not (placed s t) && (ltb (r .worker) 16 && leb (r .start + g .time t) (2 ^ 40)))
+
+-- t is placed at r
+abbrev pub put : Seats → ℕ → Row → Seats
+put s t r = set s t (Some r)
+
 -- a worker is open when it has a task
 abbrev pub sitsOn : Seats → ℕ → ℕ → Bool
 sitsOn s w t = sits (at s t) w
@@ -77,6 +87,10 @@ leads g t v k = eqb (g .from k) t && eqb (g .to k) v
 unfoldable pub follows : TaskGraph → ℕ → ℕ → Bool
 follows g t v = some (leads g t v) (g .edges)
 
+-- a table that marks the successors of t
+abbrev pub Marks : TaskGraph → ℕ → List Bool → Type 0
+Marks g t marks = (v : ℕ) → v < 512 → getD marks v false ≡ follows g t v
+
 module _ (g : TaskGraph) (s : Seats) where
   -- w holds an input of t
   abbrev pub feeds : ℕ → ℕ → ℕ → Bool
@@ -95,10 +109,6 @@ module _ (g : TaskGraph) (s : Seats) where
   unfoldable pub closed : ℕ → ℕ → Bool
   closed t w = every (shut t w) (g .edges)
 
--- the nominal cost of an edge: departure 0, worker 0 to worker 1
-abbrev pub nominal : Arrives → TaskGraph → ℕ → ℕ
-nominal arrives g k = arrives 0 0 1 (g .amount k)
-
 module _ (arrives : Arrives) (g : TaskGraph) (s : Seats) where
   -- the t-level of t: the largest, over its inputs, of end plus nominal cost, or 0
   abbrev pub nominalAt : ℕ → ℕ → ℕ
@@ -107,12 +117,12 @@ module _ (arrives : Arrives) (g : TaskGraph) (s : Seats) where
   unfoldable pub tLevel : ℕ → ℕ
   tLevel t = largest (nominalAt t) (g .edges)
 
-  -- when what edge k brings is on w: at the end of its source where that sits there, else when the link says
-  abbrev pub reach : ℕ → ℕ → ℕ
-  reach w k = cond (sits (at s (g .from k)) w) (endOf g s (g .from k)) (arrives (endOf g s (g .from k)) (host (at s (g .from k))) w (g .amount k))
+  -- when an amount that task u makes is on w: at the end of u where u sits there, else when the link says
+  abbrev pub reach : ℕ → ℕ → ℕ → ℕ
+  reach w u amount = cond (sits (at s u) w) (endOf g s u) (arrives (endOf g s u) (host (at s u)) w amount)
 
   abbrev pub inputAt : ℕ → ℕ → ℕ → ℕ
-  inputAt t w k = cond (eqb (g .to k) t) (reach w k) 0
+  inputAt t w k = cond (eqb (g .to k) t) (reach w (g .from k) (g .amount k)) 0
 
   -- the start of t on w: the largest of the free tick and when its inputs are there
   unfoldable pub startOn : ℕ → ℕ → ℕ

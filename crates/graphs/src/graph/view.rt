@@ -14,7 +14,11 @@ use edges::Edge;
 fn task_or_none(tasks: &[Task], t: usize) -> Task
     ensures { λ r. ⌜ r ≡ getD (now (tasks .entry)) t noTask ⌝ }
 {
-    if t < tasks.len() { tasks[t] } else { Task { time: 0, size: 0 } }
+    if t < tasks.len() {
+        tasks[t]
+    } else {
+        Task { time: 0, size: 0 }
+    }
 }
 
 impl Graph {

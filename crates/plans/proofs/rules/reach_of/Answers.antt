@@ -3,7 +3,6 @@ use mathlib.Core.Path.{_≡_, sym, ap, _∙_}
 use mathlib.Core.List.{List, []}
 use native.Mathlib.Omega.{arith}
 use lib.ListN.{getD}
-use Rattle.std.proofs.shelf.Tests.{cond-true, cond-false, eq-eqb, ne-eqb}
 use Rattle.edges.specs.declared.edge.Edge.{Edge}
 use Rattle.edges.specs.Edges.{noEdge}
 use Rattle.graphs.specs.declared.graph.Graph.{Graph}
@@ -12,7 +11,8 @@ use Rattle.graphs.specs.Model.{model, Sound}
 use Rattle.graphs.specs.Graphs.{tasksOf, edgesOf, modelOf}
 use Rattle.plans.specs.declared.types.Row.{Row}
 use Rattle.plans.specs.Jobs.{noRow, job, noLimits, unlinked}
-use Rattle.plans.specs.Rules.{end, InTime, Each, reaches}
+use Rattle.plans.specs.Rules.{end, InTime, Each}
+use Rattle.plans.proofs.Reaches.{reaches-here, reaches-there}
 use Rattle.plans.proofs.rules.reach_of.Needs as need
 
 -- what is read through the slices that were lent is what the graph holds
@@ -26,15 +26,15 @@ module _ (g : Graph) (rows : List Row) (k : ℕ) where
   read-worker es f r q h = let e = simp q at h in ap (λ (x : Row). x .worker) e
 
 pub returns-then-from-to : need.returns-then-from-to
-unfolding reaches
 returns-then-from-to g c =
-    let ends = read-end (c .args .graph .now) (c .args .rows .now) (c .args .k) _ _ _ (c .tasks .ensures .is) (c .edges .ensures) (c .tasks .ensures .sound) (c .pre .0) (c .pre .1) (c .end-of-end .ensures) in
-    let from = read-worker (c .args .graph .now) (c .args .rows .now) (c .args .k) _ (λ e. e .from) _ (c .edges .ensures) (c .row-of-from .ensures) in
-    let to = read-worker (c .args .graph .now) (c .args .rows .now) (c .args .k) _ (λ e. e .to) _ (c .edges .ensures) (c .row-of-to .ensures) in
-    ends ∙ sym (cond-true _ _ _ (eq-eqb _ _ (sym from ∙ c .if-from-to .taken ∙ to)))
+    let k = c .args .k in
+    let j = job (modelOf (c .args .graph .now)) (c .args .rows .now) noLimits (g .L·Link .arrives (c .args .link .now)) in
+    let ends = read-end (c .args .graph .now) (c .args .rows .now) k _ _ _ (c .tasks .ensures .is) (c .edges .ensures) (c .tasks .ensures .sound) (c .pre .0) (c .pre .1) (c .end-of-end .ensures) in
+    let from = read-worker (c .args .graph .now) (c .args .rows .now) k _ (λ e. e .from) _ (c .edges .ensures) (c .row-of-from .ensures) in
+    let to = read-worker (c .args .graph .now) (c .args .rows .now) k _ (λ e. e .to) _ (c .edges .ensures) (c .row-of-to .ensures) in
+    ends ∙ sym (reaches-here j k (sym from ∙ c .if-from-to .taken ∙ to))
 
 pub returns-else-from-to : need.returns-else-from-to
-unfolding reaches
 returns-else-from-to g c =
     let m = modelOf (c .args .graph .now) in
     let k = c .args .k in
@@ -44,4 +44,4 @@ returns-else-from-to g c =
     let to = read-worker (c .args .graph .now) (c .args .rows .now) k _ (λ e. e .to) _ (c .edges .ensures) (c .row-of-to .ensures) in
     let amount = ap (λ (es : List Edge). getD es k noEdge .amount) (c .edges .ensures) in
     let sent : c .arrival .result ≡ j .arrives (end j (m .from k)) (j .worker (m .from k)) (j .worker (m .to k)) (m .amount k) = cc in
-    sent ∙ sym (cond-false _ _ _ (ne-eqb _ _ (λ h. c .if-from-to .left (from ∙ h ∙ sym to))))
+    sent ∙ sym (reaches-there j k (λ h. c .if-from-to .left (from ∙ h ∙ sym to)))

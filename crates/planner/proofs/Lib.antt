@@ -1,0 +1,9 @@
+pub mod Choices
+pub mod Goods
+pub mod Afters
+pub mod Laws
+pub mod Lines
+pub mod Queues
+pub mod Ready
+pub mod Turning
+pub mod Outcomes
