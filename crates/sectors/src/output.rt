@@ -3,7 +3,7 @@ use faults::Fault;
 use faults::Refusal;
 use graphs::Graph;
 use graphs::fault::GraphFault;
-use graphs::fault::GraphRefusal;
+use graphs::fault::GraphFaultRefusal;
 use heaps::Line;
 use heaps::Ready;
 use links::Rate;
