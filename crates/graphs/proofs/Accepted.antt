@@ -10,7 +10,7 @@ use lib.ListN.{length, getD, drop}
 use Rattle.std.specs.declared.option.Option.{Option}
 use Rattle.std.specs.declared.option.Option.the-variants.{Some, None}
 use Rattle.std.specs.declared.result.Result.the-variants.{Ok}
-use Rattle.std.proofs.shelf.Lists.{getD-append-left, getD-push, length-push, nil-from-length, drop-all, joined-more}
+use Rattle.std.proofs.shelf.Lists.{getD-append-left, getD-push, length-append, length-push, nil-from-length, drop-all, joined-more}
 use Rattle.std.proofs.shelf.Tests.{cases-lt, both-ways, and-from, eq-eqb}
 use Rattle.scans.specs.Scans.{lowest}
 use Rattle.scans.proofs.Scans.{lowest-all}
@@ -83,6 +83,10 @@ single-push es e f h j k r =
           both-ways (joinedIn es (e .from) (e .to)) f (one-in (λ (x : Edge). eqb (e .from) (x .from) && eqb (e .to) (x .to)) es j jl (and-from _ _ (eq-eqb _ _ u) (eq-eqb _ _ v))))
     ]
 
+-- the offset after what was added to one of two parts
+placed : (at next : ℕ) (b tb eb tb′ eb′ x : List ℕ) → at ≡ length (b ++ (tb ++ eb)) → next ≡ at + length x → length tb′ + length eb′ ≡ length tb + length eb + length x → next ≡ length (b ++ (tb′ ++ eb′))
+placed at next b tb eb tb′ eb′ x p n e = omega (arith, length-append b (tb ++ eb), length-append tb eb, length-append b (tb′ ++ eb′), length-append tb′ eb′)
+
 -- ---- what holds at each record
 
 module _ (file : List ℕ) (w : Bytes file) (h : Head) (few : Few h) where
@@ -95,11 +99,15 @@ module _ (file : List ℕ) (w : Bytes file) (h : Head) (few : Few h) where
     pub joins : (k : ℕ) → k < length (p .edges) → EdgeFits (h .tasks) (getD (p .edges) k noEdge .from) (getD (p .edges) k noEdge .to) (getD (p .edges) k noEdge .amount)
     pub single : (j k : ℕ) → Repeats (p .edges) j k → ⊥
     pub bytes : file ≡ (headBytes (h .tasks) (h .edges) ++ (tasksBytes (p .tasks) (p .names) ++ edgesBytes (p .edges))) ++ drop at file
+    pub place : at ≡ length (headBytes (h .tasks) (h .edges) ++ (tasksBytes (p .tasks) (p .names) ++ edgesBytes (p .edges)))
 
-  step : (read at : ℕ) (p q : Parts) (i : Item) (next : ℕ) → read < h .tasks + h .edges → Going read at p → Holds file h read at i next → added i at p ≡ Ok q → Going (read + 1) next q
+  pub step : (read at : ℕ) (p q : Parts) (i : Item) (next : ℕ) → read < h .tasks + h .edges → Going read at p → Holds file h read at i next → added i at p ≡ Ok q → Going (read + 1) next q
   step read at p q (task place name time size) next l g s e =
       let x : Task = record { time = time; size = size } in
       let b = headBytes (h .tasks) (h .edges) in
+      let tb = tasksBytes (p .tasks) (p .names) in
+      let eb = edgesBytes (p .edges) in
+      let grown = tasksBytes-push (p .tasks) (p .names) x name (g .named) in
       let none : p .edges ≡ [] = nil-from-length (p .edges) (omega (arith, g .edges, s .due .0)) in
       let long = length-push (p .tasks) x in
       let named = length-push (p .names) name in
@@ -116,6 +124,7 @@ module _ (file : List ℕ) (w : Bytes file) (h : Head) (few : Few h) where
         single = g .single;
         bytes = now ∙ more ∙ ap (λ (tb : List ℕ). (b ++ (tb ++ edgesBytes [])) ++ drop next file) (sym (tasksBytes-push (p .tasks) (p .names) x name (g .named)))
             ∙ ap (λ (es : List Edge). (b ++ (tasksBytes (p .tasks ++ x ∷ []) (p .names ++ name ∷ []) ++ edgesBytes es)) ++ drop next file) (sym none);
+        place = placed at next b tb eb (tasksBytes (p .tasks ++ x ∷ []) (p .names ++ name ∷ [])) eb (taskBytes name time size) (g .place) (s .long) (omega (arith, ap length grown, length-append tb (taskBytes name time size)));
       }
   step read at p q (edge from to amount) next l g s e =
       let x : Edge = record { from = from; to = to; amount = amount } in
@@ -134,6 +143,7 @@ module _ (file : List ℕ) (w : Bytes file) (h : Head) (few : Few h) where
         joins = each-push (λ (y : Edge). EdgeFits (h .tasks) (y .from) (y .to) (y .amount)) (p .edges) x noEdge (g .joins) (s .due .2);
         single = single-push (p .edges) x (u .0) (g .single);
         bytes = now ∙ more ∙ ap (λ (eb : List ℕ). (b ++ (tb ++ eb)) ++ drop next file) (joined-more edgeOn [] (p .edges) x);
+        place = placed at next b tb (edgesBytes (p .edges)) tb (edgesBytes (p .edges ++ x ∷ [])) (edgeOn x) (g .place) (s .long) (omega (arith, ap length (joined-more edgeOn [] (p .edges) x), length-append (edgesBytes (p .edges)) (edgeOn x)));
       }
   step read at p q end next l g s e = absurd (omega (arith, s .due .0))
 
@@ -143,7 +153,7 @@ module _ (file : List ℕ) (w : Bytes file) (h : Head) (few : Few h) where
   ended at (edge from to amount) next s = absurd (omega (arith, s .due .1))
   ended at end next s = s .due .1
 
-  came : (read at : ℕ) (r : Item × ℕ) → inRecord read (recordAt file h read at) ≡ Ok r → Holds file h read at (r .0) (r .1)
+  pub came : (read at : ℕ) (r : Item × ℕ) → inRecord read (recordAt file h read at) ≡ Ok r → Holds file h read at (r .0) (r .1)
   came read at r e = un-record file w h read at r (un-mapErr (λ d. InRecord d read) (recordAt file h read at) r e)
 
   pub all-read : (n read at : ℕ) (p q : Parts) → n + read ≡ h .tasks + h .edges → Going read at p → partsFrom n file h read at p ≡ Ok q → (next : ℕ) × Going (h .tasks + h .edges) next q × (length file ≤ next)
@@ -183,18 +193,21 @@ module _ (file : List ℕ) (w : Bytes file) (h : Head) (few : Few h) where
       g .bytes ∙ ap (λ (r : List ℕ). (headBytes (h .tasks) (h .edges) ++ b) ++ r) (drop-all next file l) ∙ append-nil (headBytes (h .tasks) (h .edges) ++ b)
       ∙ ap (λ (x : ℕ). headBytes x (h .edges) ++ b) k ∙ ap (λ (x : ℕ). headBytes (length (q .tasks)) x ++ b) m
 
+  pub started : Opens file h → Going 0 (h .next) noParts
+  started o = record {
+    tasks = omega arith;
+    edges = omega arith;
+    named = refl;
+    fits = λ t l. absurd (omega arith);
+    joins = λ k l. absurd (omega arith);
+    single = λ j k r. absurd (omega (arith, r .1));
+    bytes = o .bytes ∙ ap (λ (x : List ℕ). x ++ drop (h .next) file) (sym (append-nil (headBytes (h .tasks) (h .edges))));
+    place = o .long ∙ ap length (sym (append-nil (headBytes (h .tasks) (h .edges))));
+  }
+
   pub parts-limited : (q : Parts) → Opens file h → allParts file h ≡ Ok q → (file ≡ fileBytes q) × Limited q
   parts-limited q o e =
-      let start : Going 0 (h .next) noParts = record {
-        tasks = omega arith;
-        edges = omega arith;
-        named = refl;
-        fits = λ t l. absurd (omega arith);
-        joins = λ k l. absurd (omega arith);
-        single = λ j k r. absurd (omega (arith, r .1));
-        bytes = o .bytes ∙ ap (λ (x : List ℕ). x ++ drop (h .next) file) (sym (append-nil (headBytes (h .tasks) (h .edges))));
-      } in
-      let r = all-read (h .tasks + h .edges) 0 (h .next) noParts q (omega arith) start e in
+      let r = all-read (h .tasks + h .edges) 0 (h .next) noParts q (omega arith) (started o) e in
       (encoding (r .0) q (r .1) (r .2), limited (r .0) q (r .1))
 
 -- ---- no cycle

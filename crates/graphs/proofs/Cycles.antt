@@ -1,7 +1,7 @@
 -- A cycle is told last: of a file that is the encoding of parts within their limits.
 use Prim.Native.Nat.{ℕ, zero, suc, _+_}
-use mathlib.Core.Path.{_≡_, refl, ap, subst}
-use mathlib.Core.Logic.{_⊎_, inl, inr}
+use mathlib.Core.Path.{_≡_, ap, subst}
+use mathlib.Core.Logic.{inl, inr}
 use mathlib.Core.List.{List}
 use native.Mathlib.Omega.{arith}
 use lib.ListN.{length}
@@ -17,26 +17,21 @@ use Rattle.orders.proofs.Ways.{cycle-law}
 use Rattle.numbers.proofs.Groups.{Bytes}
 use Rattle.records.specs.declared.fault.RecordFault.{RecordFault}
 use Rattle.records.specs.declared.types.Head.{Head}
-use Rattle.records.specs.Fields.{andThen}
 use Rattle.records.specs.Heads.{headAt}
 use Rattle.records.specs.Records.{Item, task, edge, end, recordAt}
 use Rattle.records.proofs.Fields.{un-mapErr}
 use Rattle.records.proofs.Heads.{un-head}
 use Rattle.graphs.specs.declared.fault.GraphFault.{GraphFault}
-use Rattle.graphs.specs.declared.fault.GraphFault.the-variants.{InRecord, Cycle, Memory}
+use Rattle.graphs.specs.declared.fault.GraphFault.the-variants.{InRecord, Cycle}
 use Rattle.graphs.specs.Parts.{Parts}
 use Rattle.graphs.specs.Files.{inRecord, joinedIn, added, partsFrom, allParts, refusedAt, uncycled, graphOf, Denies, CycleIn}
 use Rattle.graphs.proofs.Accepted.{parts-limited, within-limits}
+use Rattle.graphs.proofs.Turns.{un-err, not-in-record}
 
 -- ---- no part before the end tells of a cycle
 
-un-err : {A B E : Type 0} (r : Result A E) (f : A → Result B E) (d : E) → andThen r f ≡ Err d → (r ≡ Err d) ⊎ ((a : A) × (r ≡ Ok a) × (f a ≡ Err d))
-un-err (Ok a) f d e = inr (a, refl, e)
-un-err (Err x) f d e = inl (let s : x ≡ d = cc e in ap Err s)
-
 not-record : {T : Type 0} (k : ℕ) (r : Result T RecordFault) (t : ℕ) → inRecord k r ≡ Err (Cycle t) → ⊥
-not-record k (Ok x) t e = let z : _≡_ {A = ℕ} 0 1 = cc e in omega arith
-not-record k (Err d) t e = let z : _≡_ {A = ℕ} 0 1 = cc e in omega arith
+not-record k r t = not-in-record k r (Cycle t) (λ d e. let z : _≡_ {A = ℕ} 0 1 = cc e in omega arith)
 
 not-added : (i : Item) (at : ℕ) (p : Parts) (t : ℕ) → added i at p ≡ Err (Cycle t) → ⊥
 not-added (task place name time size) at p t e = let z : _≡_ {A = ℕ} 0 1 = cc e in omega arith

@@ -5,3 +5,4 @@ pub mod Accepted
 pub mod Encoded
 pub mod Places
 pub mod Cycles
+pub mod Repeated

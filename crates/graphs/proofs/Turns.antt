@@ -1,7 +1,7 @@
 -- The reader: what came, one turn of it, the head, and the order.
 use Prim.Native.Nat.{ℕ, zero, suc, _+_, _-_}
 use mathlib.Core.Path.{_≡_, refl, sym, ap, _∙_}
-use mathlib.Core.Logic.{inl, inr}
+use mathlib.Core.Logic.{_⊎_, inl, inr}
 use mathlib.Core.List.{List}
 use native.Mathlib.Omega.{arith}
 use lib.ListN.{length}
@@ -22,6 +22,7 @@ use Rattle.records.specs.Faults.{countedBy}
 use Rattle.records.specs.Fields.{andThen}
 use Rattle.records.specs.Heads.{headAt}
 use Rattle.records.specs.Records.{Item, recordAt}
+use Rattle.graphs.specs.declared.fault.GraphFault.{GraphFault}
 use Rattle.graphs.specs.declared.fault.GraphFault.the-variants.{InRecord}
 use Rattle.graphs.specs.Faults.{ofOrder}
 use Rattle.graphs.specs.Parts.{Parts}
@@ -42,6 +43,15 @@ then-goes r f x e = ap (λ y. andThen y f) e
 
 pub then-fails : {A B E : Type 0} (r : Result A E) (f : A → Result B E) (d : E) → r ≡ Err d → andThen r f ≡ Err d
 then-fails r f d e = ap (λ y. andThen y f) e
+
+-- what is refused is refused by one of its parts
+pub un-err : {A B E : Type 0} (r : Result A E) (f : A → Result B E) (d : E) → andThen r f ≡ Err d → (r ≡ Err d) ⊎ ((a : A) × (r ≡ Ok a) × (f a ≡ Err d))
+un-err (Ok a) f d e = inr (a, refl, e)
+un-err (Err x) f d e = inl (let s : x ≡ d = cc e in ap Err s)
+
+pub not-in-record : {T : Type 0} (k : ℕ) (r : Result T RecordFault) (d : GraphFault) → ((e : RecordFault) → InRecord e k ≡ d → ⊥) → inRecord k r ≡ Err d → ⊥
+not-in-record k (Ok x) d other e = let z : _≡_ {A = ℕ} 0 1 = cc e in omega arith
+not-in-record k (Err f) d other e = let s : InRecord f k ≡ d = cc e in other f s
 
 pub not-both : {A E : Type 0} (r : Result A E) (x : A) (d : E) → r ≡ Ok x → r ≡ Err d → ⊥
 not-both r x d a b = let z : _≡_ {A = ℕ} 0 1 = cc in omega arith

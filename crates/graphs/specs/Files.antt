@@ -1,28 +1,30 @@
 -- The graph of a file, or the file's first fault from left to right; a cycle is told last.
-use Prim.Native.Nat.{ℕ, zero, suc, _+_}
+use Prim.Native.Nat.{ℕ, zero, suc, _+_, _<_}
 use mathlib.Core.Path.{_≡_}
 use mathlib.Core.Logic.{_⊎_}
 use mathlib.Core.Bool.{Bool, cond, _&&_}
 use mathlib.Core.List.{List, [], _∷_, _++_}
 use lib.Dec.{eqb}
-use lib.ListN.{length}
+use lib.ListN.{length, getD}
 use Rattle.std.specs.declared.option.Option.{Option}
 use Rattle.std.specs.declared.option.Option.the-variants.{Some, None}
 use Rattle.std.specs.declared.result.Result.{Result}
 use Rattle.std.specs.declared.result.Result.the-variants.{Ok, Err}
 use Rattle.scans.specs.Scans.{someIn, lowest}
 use Rattle.edges.specs.declared.edge.Edge.{Edge}
+use Rattle.edges.specs.Edges.{noEdge}
 use Rattle.orders.specs.Orders.{stuck}
+use Rattle.orders.specs.PairSets.{Repeats}
 use Rattle.orders.specs.Cycles.{Cyclic}
 use Rattle.records.specs.declared.fault.RecordFault.{RecordFault}
 use Rattle.records.specs.declared.types.Head.{Head}
 use Rattle.records.specs.Fields.{andThen, mapErr}
 use Rattle.records.specs.Heads.{headAt}
-use Rattle.records.specs.Records.{Item, task, edge, end, recordAt}
+use Rattle.records.specs.Records.{Item, task, edge, end, edgeBytes, recordAt}
 use Rattle.graphs.specs.declared.types.Task.{Task}
 use Rattle.graphs.specs.declared.fault.GraphFault.{GraphFault}
 use Rattle.graphs.specs.declared.fault.GraphFault.the-variants.{InRecord, Repeated, Cycle, Memory}
-use Rattle.graphs.specs.Parts.{Parts, partsOver, noParts, Limited, WellFormed, fileBytes}
+use Rattle.graphs.specs.Parts.{Parts, partsOver, noParts, Limited, WellFormed, frontBytes, fileBytes}
 
 -- ---- what is read
 
@@ -81,6 +83,17 @@ Read g (Err e) p = Denies g e × (p ≡ noParts)
 abbrev pub Lawful : List ℕ → Result (Unit {0}) GraphFault → Parts → Type 0
 Lawful file (Ok _) p = WellFormed p × (file ≡ fileBytes p) × ((q : Parts) → WellFormed q → file ≡ fileBytes q → q ≡ p)
 Lawful file (Err e) p = (e ≡ Memory) ⊎ ((q : Parts) → WellFormed q → file ≡ fileBytes q → ⊥)
+
+-- a repeated pair is told of the first edge that joins the pair of an earlier one: it stands at `place`, after the parts before it
+pub record RepeatedIn (file : List ℕ) (place : ℕ) : Type 0 where
+  pub before : Parts
+  pub edges : ℕ
+  pub next : Edge
+  pub after : List ℕ
+  pub bytes : file ≡ frontBytes edges before ++ (edgeBytes (next .from) (next .to) (next .amount) ++ after)
+  pub long : place ≡ length (frontBytes edges before)
+  pub single : (j k : ℕ) → Repeats (before .edges) j k → ⊥
+  pub repeats : (j : ℕ) × (j < length (before .edges)) × (getD (before .edges) j noEdge .from ≡ next .from) × (getD (before .edges) j noEdge .to ≡ next .to)
 
 -- a cycle is told of a file that is the encoding of parts within their limits:
 -- the task is the lowest that lies on a cycle of their edges or after one

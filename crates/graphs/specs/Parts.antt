@@ -49,5 +49,9 @@ tasksBytes (t ∷ ts) (name ∷ names) = taskBytes name (t .time) (t .size) ++ t
 abbrev pub edgesBytes : List Edge → List ℕ
 edgesBytes es = joined (λ (e : Edge). edgeBytes (e .from) (e .to) (e .amount)) es
 
+-- under a head that has so many edges
+abbrev pub frontBytes : ℕ → Parts → List ℕ
+frontBytes edges p = headBytes (length (p .tasks)) edges ++ (tasksBytes (p .tasks) (p .names) ++ edgesBytes (p .edges))
+
 unfoldable pub fileBytes : Parts → List ℕ
-fileBytes p = headBytes (length (p .tasks)) (length (p .edges)) ++ (tasksBytes (p .tasks) (p .names) ++ edgesBytes (p .edges))
+fileBytes p = frontBytes (length (p .edges)) p

@@ -7,9 +7,9 @@ ghost use Rattle.std.specs.Results.{Cases};
 ghost use Rattle.std.specs.declared.result.Result.the-variants.{Ok, Err};
 ghost use Rattle.edges.specs.Tables.{listed};
 ghost use Rattle.orders.specs.Orders.{Ordered};
-ghost use Rattle.graphs.specs.declared.fault.GraphFault.the-variants.{Cycle};
+ghost use Rattle.graphs.specs.declared.fault.GraphFault.the-variants.{Repeated, Cycle};
 ghost use Rattle.graphs.specs.Drafts.{drafted, Tidy};
-ghost use Rattle.graphs.specs.Files.{uncycled, graphOf, Denies, Read, Lawful, CycleIn};
+ghost use Rattle.graphs.specs.Files.{uncycled, graphOf, Denies, Read, Lawful, RepeatedIn, CycleIn};
 ghost use Rattle.graphs.specs.Graphs.{spelled, partsOf};
 ghost use Rattle.graphs.specs.Parts.{partsOver, noParts, Limited};
 use crate::draft::Draft;
@@ -93,6 +93,7 @@ impl Graph {
     pub fn read(&mut self, heap: Global, file: &[u8]) -> Result<(), GraphFault>
         ensures is { λ r. ⌜ Read (graphOf (now (file .entry))) r (partsOf (now (self .exit))) ⌝ }
         ensures law { λ r. ⌜ Lawful (now (file .entry)) r (partsOf (now (self .exit))) ⌝ }
+        ensures repeated { λ r. ⌜ ((place : ℕ) → r ≡ Err (Repeated place) → RepeatedIn (now (file .entry)) place) ⌝ }
         ensures cycle { λ r. ⌜ ((t : ℕ) → r ≡ Err (Cycle t) → CycleIn (now (file .entry)) t) ⌝ }
     {
         *self = Graph::new(heap);

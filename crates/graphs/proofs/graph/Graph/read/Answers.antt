@@ -9,6 +9,7 @@ use Rattle.graphs.specs.Files.{graphOf}
 use Rattle.graphs.proofs.Accepted.{accepted}
 use Rattle.graphs.proofs.Cycles.{denied-cycle}
 use Rattle.graphs.proofs.Encoded.{encoded}
+use Rattle.graphs.proofs.Repeated.{denied-repeated}
 use Rattle.graphs.proofs.Turns.{not-both}
 use Rattle.graphs.proofs.graph.Graph.read.Needs as need
 
@@ -22,6 +23,7 @@ returns-in-Break-self c =
     record {
       is = (d, c .new .ensures);
       law = ⊎-elim inl (λ e. inr (λ q w s. not-both (graphOf file) q _ (encoded file q w s) e)) d;
+      repeated = λ place e. denied-repeated file _ place bytes d e;
       cycle = λ t e. denied-cycle file _ t bytes d e;
     }
 
@@ -34,5 +36,6 @@ returns c =
     record {
       is = is;
       law = (a .1, a .0, (λ q w s. ok-same q _ (sym (encoded file q w s) ∙ is)));
+      repeated = λ place e. absurd (let z : _≡_ {A = ℕ} 0 1 = cc e in omega arith);
       cycle = λ t e. absurd (let z : _≡_ {A = ℕ} 0 1 = cc e in omega arith);
     }
