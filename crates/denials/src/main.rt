@@ -1,4 +1,6 @@
 // Damages the hillside's file in one place after another, and prints what the sheet's program would print of each.
+#![tactic(auto)]
+
 use sectors::sheet_of;
 use std::io;
 use std::io::Write;

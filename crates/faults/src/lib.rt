@@ -1,4 +1,6 @@
 // What a refusal tells, whichever layer refuses.
+#![tactic(auto)]
+
 ghost use Rattle.std.specs.Prelude.{◌≡◌};
 ghost use Rattle.faults.specs.declared.Fault.{Fault};
 

@@ -1,4 +1,6 @@
 // A task graph: tasks with their names, times and sizes, and the edges between them, as a file has them.
+#![tactic(auto)]
+
 mod draft;
 pub mod fault;
 pub mod graph;

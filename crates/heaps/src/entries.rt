@@ -34,7 +34,7 @@ pub struct Line {
 impl Ordered for Line {
     ghost before = { above };
 
-    ghost total = { keys.above-total };
+    ghost total = { keys.above_total };
 
     fn precedes(&self, other: &Line) -> bool {
         self.start < other.start

@@ -1,4 +1,6 @@
 // A binary heap over a table that the caller lends, for every kind of entry whose order is total.
+#![tactic(auto)]
+
 mod entries;
 mod full;
 mod heap;

@@ -1,4 +1,6 @@
 // The level of each task of a graph: the longest way on from it.
+#![tactic(auto)]
+
 ghost use Rattle.std.specs.Prelude.{◌≡◌, ℕ, ◌^◌, ◌<◌, ◌≤◌, true, false, length, nat_le, slice_index};
 ghost use Rattle.graphs.specs.Graphs.{tasks_of, model_of};
 ghost use Rattle.levels.specs.Levels.{level_of_task, level_at, Levels, Longest, LevelsAreUnique};

@@ -1,4 +1,6 @@
 // Links: when does an amount that leaves one worker at a tick reach another worker?
+#![tactic(auto)]
+
 ghost use Rattle.std.specs.Prelude.{◌≡◌};
 ghost use Rattle.links.specs.Links.{Arrives, Lawful};
 

@@ -1,4 +1,6 @@
 // Numbers and texts: read from a file's bytes, and written into bytes that the caller lends.
+#![tactic(auto)]
+
 pub mod fault;
 pub mod number;
 pub mod text;

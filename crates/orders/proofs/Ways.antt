@@ -75,7 +75,7 @@ back_under es n k t f g tl b zero le = tl
 back_under es n k t f g tl b (suc i) le = b.under i (omega arith)
 
 back_leads : (es : List Edge) (n k t f : ℕ) (g : ℕ → ℕ) → Leads es f t → Back es n k f g → (i : ℕ) → i < suc k → Leads es (before t g (suc i)) (before t g i)
-back_leads es n k t f g l b zero lt = subst (λ (x : ℕ). Leads es x t) (sym b.from-t) l
+back_leads es n k t f g l b zero lt = subst (λ (x : ℕ). Leads es x t) (sym b.from_t) l
 back_leads es n k t f g l b (suc i) lt = b.leads i (omega arith)
 
 back : (es : List Edge) (n k t : ℕ) → Within es n → t < n → stuck es k t ≡ true → (g : ℕ → ℕ) × Back es n k t g
@@ -103,7 +103,7 @@ only es n t w tl y =
     let k = j - i - 1 in
     let loop : Way es (suc k) (g j) (g i) = way_along es n n t g b.1 (suc k) i j (omega (arith, s.2)) s.3 in
     let on : Way es i (g i) (g 0) = way_along es n n t g b.1 i 0 i (omega arith) (omega (arith, s.2, s.3)) in
-    (g i, k, i, subst (λ (x : ℕ). Way es (suc k) x (g i)) (sym s.4) loop, subst (λ (x : ℕ). Way es i (g i) x) b.1.from-t on)
+    (g i, k, i, subst (λ (x : ℕ). Way es (suc k) x (g i)) (sym s.4) loop, subst (λ (x : ℕ). Way es i (g i) x) b.1.from_t on)
 
 -- ways join
 

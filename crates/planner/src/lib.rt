@@ -1,4 +1,6 @@
 // The planner: which worker runs which task from which tick.
+#![tactic(auto)]
+
 mod queue;
 mod schedule;
 pub mod types;

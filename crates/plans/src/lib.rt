@@ -1,4 +1,6 @@
 // Plans: a row for each task, and the five rules that a plan keeps.
+#![tactic(auto)]
+
 pub mod check;
 pub mod fault;
 mod rows;

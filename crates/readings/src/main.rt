@@ -1,4 +1,6 @@
 // Reads graph files at the edges of their limits, and tells of each how many tasks and edges it has, or why it is refused.
+#![tactic(auto)]
+
 use faults::{Fault, Refusal};
 use graphs::{Graph, name_of};
 use std::alloc::{AllocError, Global};

@@ -1,4 +1,6 @@
 // The best of several bids, one at a time.
+#![tactic(auto)]
+
 ghost use Rattle.std.specs.Prelude.{◌≡◌, ℕ};
 ghost use Rattle.scans.specs.Bids.{beats, outbids, BestIsChosen};
 

@@ -1,4 +1,6 @@
 // The library under one name: graph files in, plans and their sheets out.
+#![tactic(auto)]
+
 mod output;
 
 pub use faults::{Fault, Refusal};

@@ -1,4 +1,6 @@
 // Reads a graph file from standard input and prints the sheet of its plan, or the line of the denial.
+#![tactic(auto)]
+
 use sectors::sheet_of;
 use std::io;
 use std::io::{Read, Write};

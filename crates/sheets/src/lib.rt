@@ -1,4 +1,6 @@
 // The sheet of a plan: one line for each task, by start and then by worker. And the line that tells a denial.
+#![tactic(auto)]
+
 pub mod denial;
 mod lines;
 mod text;

@@ -1,4 +1,6 @@
 // Placing a task: the four steps over what is placed so far.
+#![tactic(auto)]
+
 pub mod desk;
 
 pub use desk::Desk;
