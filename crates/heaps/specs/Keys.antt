@@ -1,10 +1,11 @@
 -- An order by one key, and then by what is left, keeps the laws of what is left.
 use Rattle.std.specs.Prelude.{◌≡◌, ℕ, Bool, true, false, nat_lt}
-use Rattle.std.proofs.Common.{arith}
+use Rattle.std.proofs.Common.{sym, arith}
 use Rattle.std.proofs.lemmas.Bool.Decides.{nat_tests}
-use Rattle.heaps.specs.Entries.{lower, above}
+use Rattle.heaps.specs.Entries.{lower, sooner, above}
 use Rattle.heaps.specs.Orders.{TotalOrder}
 use Rattle.heaps.specs.declared.entries.Line.{Line}
+use Rattle.heaps.specs.declared.entries.Ready.{Ready}
 
 pub lower_one_way : (a b : ℕ) (p q : Bool) → (p ≡ true → q ≡ false) → lower a b p ≡ true → lower b a q ≡ false
 lower_one_way a b p q h e = grind (arith, nat_tests)
@@ -25,6 +26,19 @@ last_chain a b c e f = grind (arith, nat_tests)
 
 pub last_same : (a b : ℕ) → nat_lt a b ≡ false → nat_lt b a ≡ false → a ≡ b
 last_same a b e f = grind (arith, nat_tests)
+
+-- two keys
+
+pub sooner_total : TotalOrder sooner
+sooner_total = record {
+  one_way = λ x y. lower_one_way y.rank x.rank _ _ (last_one_way x.task y.task);
+  chain = λ x y z e f. lower_chain z.rank y.rank x.rank _ _ _ (λ p q. last_chain x.task y.task z.task q p) f e;
+  same = λ x y p q.
+      let ranks = lower_same y.rank x.rank _ _ p q in
+      let rank = sym ranks.0 in
+      let tasks = last_same x.task y.task ranks.1 ranks.2 in
+      λ i. record { rank = rank i; task = tasks i };
+}
 
 -- three keys
 

@@ -1,6 +1,5 @@
 // The two kinds of entry that wait in a heap, each with its order.
 ghost use Rattle.heaps.specs.Entries.{sooner, above};
-ghost use Rattle.std.proofs.Common.{rules};
 ghost use Rattle.heaps.specs.Keys as keys;
 
 use crate::order::Ordered;
@@ -15,7 +14,7 @@ pub struct Ready {
 impl Ordered for Ready {
     ghost before = { sooner };
 
-    ghost total = { Prim.search rules };
+    ghost total = { keys.sooner_total };
 
     fn precedes(&self, other: &Ready) -> bool {
         self.rank > other.rank || (self.rank == other.rank && self.task < other.task)

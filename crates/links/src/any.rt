@@ -62,17 +62,17 @@ impl AnyLink {
         match self {
             AnyLink::Rated(link) => Ok(AnyLink::Rated(*link)),
             AnyLink::Table(link) => {
-                let link = Box::new(Box::allocator(link), **link)?;
+                let link = Box::new(*Box::allocator(link), **link)?;
                 Ok(AnyLink::Table(link))
             }
             AnyLink::Slotted(period, below) => {
                 let copy = below.copied()?;
-                let below = Box::new(Box::allocator(below), copy)?;
+                let below = Box::new(*Box::allocator(below), copy)?;
                 Ok(AnyLink::Slotted(*period, below))
             }
             AnyLink::Packed(handling, below) => {
                 let copy = below.copied()?;
-                let below = Box::new(Box::allocator(below), copy)?;
+                let below = Box::new(*Box::allocator(below), copy)?;
                 Ok(AnyLink::Packed(*handling, below))
             }
         }

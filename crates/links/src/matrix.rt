@@ -2,7 +2,7 @@
 ghost use Rattle.std.specs.Prelude.{◌≡◌, ℕ, ◌^◌, ◌<◌, ◌≤◌, slice_index};
 ghost use Rattle.links.specs.Limits.{Made, MatrixOutside};
 ghost use Rattle.links.specs.Links.{matrix};
-ghost use Rattle.std.proofs.Common.{rules, arith};
+ghost use Rattle.links.specs.Laws.{matrix_lawful};
 
 use crate::fault::LinkFault;
 use crate::{CEILING, Link};
@@ -30,7 +30,7 @@ impl Matrix {
 impl Link for Matrix {
     ghost arrives = { λ l. matrix l.entries };
 
-    ghost lawful = { first_of (Prim.search rules, Prim.grind (arith, Self.row.coded.inj)) };
+    ghost lawful = { λ l. matrix_lawful l.entries };
 
     fn arrival(&self, departure: u64, from: usize, to: usize, _amount: u32) -> u64 {
         let wait = if from < 16 && to < 16 {

@@ -2,7 +2,7 @@
 ghost use Rattle.std.specs.Prelude.{◌≡◌, ◌^◌, ◌≤◌};
 ghost use Rattle.links.specs.Limits.{Made, RateOutside};
 ghost use Rattle.links.specs.Links.{rate};
-ghost use Rattle.std.proofs.Common.{rules, arith};
+ghost use Rattle.links.specs.Laws.{rate_lawful};
 
 use crate::fault::LinkFault;
 use crate::{CEILING, Link};
@@ -31,7 +31,7 @@ impl Rate {
 impl Link for Rate {
     ghost arrives = { λ l. rate l.base l.each };
 
-    ghost lawful = { first_of (Prim.search rules, Prim.grind (arith, Self.row.coded.inj)) };
+    ghost lawful = { λ l. rate_lawful l.base l.each };
 
     fn arrival(&self, departure: u64, _from: usize, _to: usize, amount: u32) -> u64 {
         (departure.min(CEILING) + self.base + self.each * amount as u64).min(CEILING)

@@ -9,8 +9,8 @@ use Rattle.graphs.specs.Graphs.{tasks_of, edges_of}
 use Rattle.levels.proofs.Levels.{level_outputs}
 use Rattle.levels.proofs.level_of.Goals as goal
 
-pub overflow-add-arrival : goal.overflow-add-arrival
-overflow-add-arrival g c =
+pub overflow_add-arrival : goal.overflow_add-arrival
+overflow_add-arrival g c =
     let e = get_or c.outputs-outputs.result.now c.loop-e.e-index no_edge in
     let ceiling : c.arrival.result ≤ 2 ^ 40 = rw c.arrival.ensures ((g.met.L.Link.lawful c.args.link.now).ceiling _ _ _ _) in
     omega (arith, c.requires.low e.to)

@@ -4,5 +4,5 @@ use Rattle.graphs.proofs.draft.name_from.Goals as goal
 
 pub returns : goal.returns
 returns c =
-    let same = c.copy-from-slice.ensures.after in
-    record { is = take_at c.copy-from-slice.new.self _ (length c.args.bytes.now) (ap length same) ∙ same; short = c.requires }
+    let same = c.copy_from_slice.ensures.after in
+    record { is = take_at c.copy_from_slice.new.self _ (length c.args.bytes.now) (ap length same) ∙ same; short = c.requires }

@@ -13,5 +13,5 @@ returns-then-value-lt128 t c =
 pub returns : goal.returns
 returns t c =
     let e = coded_more c.args.value c.if-value-lt128.false (omega arith) in
-    let p = puts_same (sym e) (puts_next (omega arith) c.put-at.ensures c.put-number.ensures.puts) in
+    let p = puts_same (sym e) (puts_next (omega arith) c.put-at.ensures c.put_number.ensures.puts) in
     record { puts = p; law = spells c.args.value (omega arith); back = λ h r. puts_reads c.args.value (omega arith) p h r }

@@ -29,22 +29,22 @@ returns-then-byte-lt128 t c =
       within = (omega arith, omega arith);
     }
 
-pub returns-in-err-rest : goal.returns-in-err-rest
-returns-in-err-rest t c =
-    let p = err_from_is_err_and c.from-residual.result c.from-residual.ensures.1 in
+pub returns-in_err-rest : goal.returns-in_err-rest
+returns-in_err-rest t c =
+    let p = err_from_is_err_and c.from_residual.result c.from_residual.ensures.1 in
     let o = opened c.args.file.now c.args.start c.args.at c.args.left c.args.first (omega arith) in
-    record { is = rw (p.1, p.2) (grind (arith, nat_tests, o, c.in-err-rest.ensures.is)); small = rw p.1 tt; within = rw p.1 tt }
+    record { is = rw (p.1, p.2) (grind (arith, nat_tests, o, c.in_err-rest.ensures.is)); small = rw p.1 tt; within = rw p.1 tt }
 
-pub overflow-mul-result : goal.overflow-mul-result
-overflow-mul-result t c = omega (arith, c.in-ok-rest.ensures.small, bound (c.args.left - 1) (omega arith))
+pub overflow_mul-result : goal.overflow_mul-result
+overflow_mul-result t c = omega (arith, c.in_ok-rest.ensures.small, bound (c.args.left - 1) (omega arith))
 
-pub overflow-add-result-2 : goal.overflow-add-result-2
-overflow-add-result-2 t c = omega (arith, c.in-ok-rest.ensures.small, bound (c.args.left - 1) (omega arith))
+pub overflow_add-result-2 : goal.overflow_add-result-2
+overflow_add-result-2 t c = omega (arith, c.in_ok-rest.ensures.small, bound (c.args.left - 1) (omega arith))
 
 pub returns : goal.returns
 returns t c =
     record {
-      is = let o = opened c.args.file.now c.args.start c.args.at c.args.left c.args.first (omega arith) in grind (arith, nat_tests, o, c.in-ok-rest.ensures.is);
-      small = omega (arith, power c.args.left (omega arith), c.in-ok-rest.ensures.small, c.type-inv.file c.args.at);
-      within = (omega (arith, c.in-ok-rest.ensures.within), omega (arith, c.in-ok-rest.ensures.within));
+      is = let o = opened c.args.file.now c.args.start c.args.at c.args.left c.args.first (omega arith) in grind (arith, nat_tests, o, c.in_ok-rest.ensures.is);
+      small = omega (arith, power c.args.left (omega arith), c.in_ok-rest.ensures.small, c.type_inv.file c.args.at);
+      within = (omega (arith, c.in_ok-rest.ensures.within), omega (arith, c.in_ok-rest.ensures.within));
     }

@@ -14,11 +14,11 @@ back_by file at (Err d) h e = tt
 pub returns : goal.returns
 unfolding number_at
 returns c =
-    let bytes : Bytes c.args.file.now = λ i. omega (arith, c.type-inv.file i) in
-    let e : c.read-groups.result ≡ number_at c.args.file.now c.args.at = c.read-groups.ensures.is in
+    let bytes : Bytes c.args.file.now = λ i. omega (arith, c.type_inv.file i) in
+    let e : c.read_groups.result ≡ number_at c.args.file.now c.args.at = c.read_groups.ensures.is in
     record {
       is = e;
       law = subst (Told c.args.file.now c.args.at) (sym e) (told c.args.file.now c.args.at bytes);
-      within = c.read-groups.ensures.within;
-      back = back_by c.args.file.now c.args.at c.read-groups.result bytes e;
+      within = c.read_groups.ensures.within;
+      back = back_by c.args.file.now c.args.at c.read_groups.result bytes e;
     }

@@ -6,8 +6,8 @@ use Rattle.orders.proofs.search.arrange.Goals as goal
 pub returns : goal.returns
 returns c =
     let table = c.args.table.now in
-    let last = c.take-turns-last in
+    let last = c.take_turns-last in
     record {
-      is = c.first-waiting.ensures ∙ lowest_stuck (listed table) table.tasks last.new.waits last.new.rank last.new.order last.result (omega arith) table.within last.ensures;
-      ordered = λ e. all_ordered (listed table) table.tasks last.new.waits last.new.rank last.new.order last.result (omega arith) table.within last.ensures (sym c.first-waiting.ensures ∙ e);
+      is = c.first_waiting.ensures ∙ lowest_stuck (listed table) table.tasks last.new.waits last.new.rank last.new.order last.result (omega arith) table.within last.ensures;
+      ordered = λ e. all_ordered (listed table) table.tasks last.new.waits last.new.rank last.new.order last.result (omega arith) table.within last.ensures (sym c.first_waiting.ensures ∙ e);
     }

@@ -7,8 +7,8 @@ use Rattle.orders.specs.Searches.{count_to}
 use Rattle.orders.proofs.Shapes.{inputs_more}
 use Rattle.orders.proofs.search.count_inputs.Goals as goal
 
-pub overflow-add-waits : goal.overflow-add-waits
-overflow-add-waits c =
+pub overflow_add-waits : goal.overflow_add-waits
+overflow_add-waits c =
     let es = c.args.edges.now in
     let i = c.loop-e.e-index in
     let y = (get_or es i no_edge).to in

@@ -2,25 +2,25 @@ use Rattle.std.proofs.Common.{rules}
 use Rattle.planfiles.specs.Reading.{head_at}
 use Rattle.planfiles.proofs.read.read_head.Goals as goal
 
-pub returns-in-err-counted : goal.returns-in-err-counted
+pub returns-in_err-counted : goal.returns-in_err-counted
 unfolding head_at
-returns-in-err-counted c = search rules
+returns-in_err-counted c = search rules
 
-pub returns-in-err-count : goal.returns-in-err-count
+pub returns-in_err-count : goal.returns-in_err-count
 unfolding head_at
-returns-in-err-count c = search rules
+returns-in_err-count c = search rules
 
 pub returns-then-count-tasks : goal.returns-then-count-tasks
 unfolding head_at
 returns-then-count-tasks c = search rules
 
-pub returns-in-err-workers : goal.returns-in-err-workers
+pub returns-in_err-workers : goal.returns-in_err-workers
 unfolding head_at
-returns-in-err-workers c = search rules
+returns-in_err-workers c = search rules
 
-pub returns-in-err-ticks : goal.returns-in-err-ticks
+pub returns-in_err-ticks : goal.returns-in_err-ticks
 unfolding head_at
-returns-in-err-ticks c = search rules
+returns-in_err-ticks c = search rules
 
 pub returns : goal.returns
 unfolding head_at

@@ -21,9 +21,9 @@ returns-then-workers-lt1 c = record { told = (limit (omega arith) (search rules)
 pub returns-in-Some : goal.returns-in-Some
 returns-in-Some c = record { told = (rule1 _ (omega arith) (search rules) c.in-Some.ensures.found, refl); few = c.tasks-tasks.ensures.sound.few }
 
-pub returns-in-Some-above-ceiling : goal.returns-in-Some-above-ceiling
-returns-in-Some-above-ceiling c =
-    record { told = (rule2 _ (omega arith) (search rules) c.in-default.ensures.found c.in-Some-above-ceiling.ensures.found, refl); few = c.tasks-tasks.ensures.sound.few }
+pub returns-in-Some-above_ceiling : goal.returns-in-Some-above_ceiling
+returns-in-Some-above_ceiling c =
+    record { told = (rule2 _ (omega arith) (search rules) c.in_default.ensures.found c.in-Some-above_ceiling.ensures.found, refl); few = c.tasks-tasks.ensures.sound.few }
 
 -- the plan that the writer was given, in the words of the contract
 module _ (g : TaskGraph) (rows : List Row) (n workers ticks : ℕ) (e : n ≡ g.tasks) (l : ticks ≡ latest (unlinked g rows 0 0)) (s : g.tasks ≤ 512) where
@@ -37,24 +37,24 @@ module _ (g : TaskGraph) (rows : List Row) (n workers ticks : ℕ) (e : n ≡ g.
 pub returns-then-needed-out : goal.returns-then-needed-out
 returns-then-needed-out c =
     let g = model_of c.args.graph.now in
-    let last = c.latest-end-ticks.ensures.exact (λ t l. omega (arith, c.in-default-above-ceiling.ensures.found t l)) in
+    let last = c.latest_end-ticks.ensures.exact (λ t l. omega (arith, c.in_default-above_ceiling.ensures.found t l)) in
     let few = c.tasks-tasks.ensures.sound.few in
-    let n = needs-bytes g c.args.rows.now _ c.args.workers _ (ap length c.tasks-tasks.ensures.is) last few c.put-plan-needed.ensures in
+    let n = needs-bytes g c.args.rows.now _ c.args.workers _ (ap length c.tasks-tasks.ensures.is) last few c.put_plan-needed.ensures in
     let w : Writable (model_of c.args.graph.now) c.args.rows.now c.args.workers =
-    record { long = omega arith; few = search rules; placed = c.in-default.ensures.found; in_time = c.in-default-above-ceiling.ensures.found } in
+    record { long = omega arith; few = search rules; placed = c.in_default.ensures.found; in_time = c.in_default-above_ceiling.ensures.found } in
     record { told = (rw n (buffer w (omega (arith, n))), refl); few = few }
 
 pub returns : goal.returns
 returns c =
     let g = model_of c.args.graph.now in
-    let last = c.latest-end-ticks.ensures.exact (λ t l. omega (arith, c.in-default-above-ceiling.ensures.found t l)) in
+    let last = c.latest_end-ticks.ensures.exact (λ t l. omega (arith, c.in_default-above_ceiling.ensures.found t l)) in
     let few = c.tasks-tasks.ensures.sound.few in
     let count = ap length c.tasks-tasks.ensures.is in
-    let n = needs-bytes g c.args.rows.now _ c.args.workers _ count last few c.put-plan-needed.ensures in
+    let n = needs-bytes g c.args.rows.now _ c.args.workers _ count last few c.put_plan-needed.ensures in
     record {
       told = (
-        record { long = omega arith; few = search rules; placed = c.in-default.ensures.found; in_time = c.in-default-above-ceiling.ensures.found },
-        puts_stands (omega arith) (puts_same (same-plan g c.args.rows.now _ c.args.workers _ count last few) c.put-plan.ensures) (omega (arith, n)),
+        record { long = omega arith; few = search rules; placed = c.in_default.ensures.found; in_time = c.in_default-above_ceiling.ensures.found },
+        puts_stands (omega arith) (puts_same (same-plan g c.args.rows.now _ c.args.workers _ count last few) c.put_plan.ensures) (omega (arith, n)),
       );
       few = few;
     }

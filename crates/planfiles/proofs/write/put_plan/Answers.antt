@@ -4,6 +4,6 @@ use Rattle.planfiles.proofs.write.put_plan.Goals as goal
 
 pub returns : goal.returns
 returns c =
-    puts_next (omega arith) c.put-number-at.ensures.puts
-    (puts_next (omega arith) c.put-number-at-2.ensures.puts
-    (puts_next (omega arith) c.put-number-at-3.ensures.puts (puts_next (omega arith) c.put-number-at-4.ensures.puts c.put-rows.ensures)))
+    puts_next (omega arith) c.put_number-at.ensures.puts
+    (puts_next (omega arith) c.put_number-at-2.ensures.puts
+    (puts_next (omega arith) c.put_number-at-3.ensures.puts (puts_next (omega arith) c.put_number-at-4.ensures.puts c.put_rows.ensures)))

@@ -10,7 +10,7 @@ loop-row-init c = puts_none _ _ (omega arith)
 pub loop-row-preserved : goal.loop-row-preserved
 loop-row-preserved c =
     puts_more row_bytes c.args.rows.now c.loop-row.row-index no_row (omega arith) (omega arith) c.loop-row.invariant
-    (puts_next (omega arith) c.put-number-at.ensures.puts c.put-number-at-in-loop-row.ensures.puts)
+    (puts_next (omega arith) c.put_number-at.ensures.puts c.put_number-at-in-loop-row.ensures.puts)
 
 pub returns : goal.returns
 returns c = puts_each row_bytes c.args.rows.now c.loop-row.row-index (omega arith) c.loop-row.invariant

@@ -9,7 +9,7 @@ use Rattle.planner.specs.Turns.{ready, rank}
 use Rattle.planner.specs.Queues.{Waiting, entry}
 use Rattle.planner.proofs.Queues.{woken, woken_first, woken_all, woken_skip, woken_put, woken_not, woken_now, waiting_same, waiting_room, waiting_put}
 use Rattle.planner.proofs.queue.admit.Goals as goal
-use Rattle.planner.proofs.queue.admit.Goals.{then-is-ready, else-is-ready}
+use Rattle.planner.proofs.queue.admit.Goals.{then-is_ready, else-is_ready}
 
 pub loop-u-preserved : goal.loop-u-preserved
 loop-u-preserved g c =
@@ -21,17 +21,17 @@ loop-u-preserved g c =
     let h = c.loop-u.queue in
     let l : u < m.tasks = omega (arith, ap length (c.tasks-tasks.ensures.is ∙ ap tasks_of c.graph.ensures), c.loop-u-test.true) in
     let marked : q u ≡ false = ap not c.if-not-marks-u.false in
-    elim c.if-is-ready.branch [
-      | then-is-ready w ↦
-          (let is_ready_lem : ready m d.seats u ≡ true = sym c.is-ready.ensures ∙ w.if-is-ready.true in
+    elim c.if-is_ready.branch [
+      | then-is_ready w ↦
+          (let is_ready_lem : ready m d.seats u ≡ true = sym c.is_ready.ensures ∙ w.if-is_ready.true in
           let np = woken_not m d.seats q u marked in
           let room = waiting_room (woken m d.seats q u) key m.tasks h u l np c.loop-u.invariant in
           let same-entry : record { rank = w.rank-rank.result; task = u } ≡ entry key u = ap (λ (x : ℕ). record { rank = x; task = u }) w.rank-rank.ensures in
           let pushed = subst (λ (x : Ready). Pushed sooner h x w.push.new.self) same-entry (w.push.ensures.pushed c.loop-u.invariant.kept room) in
           let done = waiting_put (woken m d.seats q u) (woken m d.seats q (u + 1)) key m.tasks h w.push.new.self u l np (woken_now m d.seats q u is_ready_lem) (λ v ne. woken_put m d.seats q u v ne) w.push.ensures.stays.1 c.loop-u.invariant pushed in
           subst (Waiting (woken m d.seats q (u + 1)) key m.tasks) (sym w.queue-is) done)
-      | else-is-ready w ↦
-          (let not_ready : ready m d.seats u ≡ false = sym c.is-ready.ensures ∙ w.if-is-ready.false in
+      | else-is_ready w ↦
+          (let not_ready : ready m d.seats u ≡ false = sym c.is_ready.ensures ∙ w.if-is_ready.false in
           let done = waiting_same (woken m d.seats q u) (woken m d.seats q (u + 1)) key key m.tasks h (λ v _. woken_skip m d.seats q u (inr not_ready) v) (λ v _ _. refl) c.loop-u.invariant in
           subst (Waiting (woken m d.seats q (u + 1)) key m.tasks) (sym w.queue-is) done)
     ]

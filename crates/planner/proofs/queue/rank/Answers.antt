@@ -8,7 +8,7 @@ unfolding rank
 returns-then-planner-eq1 g c =
     let y = eq-eqb _ _ c.if-planner-eq1.true in
     let l = c.requires.levels.is c.args.t c.requires.task in
-    simp y (omega (arith, l, c.t-level.ensures.is))
+    simp y (omega (arith, l, c.t_level.ensures.is))
 
 pub returns-else-planner-eq1 : goal.returns-else-planner-eq1
 unfolding rank

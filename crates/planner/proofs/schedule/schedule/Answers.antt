@@ -72,7 +72,7 @@ loop-i-preserved g c =
     let inv = c.loop-i.invariant in
     let s = c.loop-i.desk.seats in
     let s' = c.advance.new.desk.seats in
-    let both = c.in-default.ensures.turn in
+    let both = c.in_default.ensures.turn in
     let t : turn p.limits p.policy a m s ≡ Ok s' = subst (λ (y : Graph). turn p.limits p.policy a (model_of y) s ≡ Ok s') inv.0 both.0 in (
       c.advance.ensures.graph ∙ inv.0,
       after_more p.limits p.policy a m c.loop-i.i s (Ok s') inv.1 t,

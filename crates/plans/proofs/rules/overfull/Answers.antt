@@ -14,12 +14,12 @@ summed : (g : Graph) (ts : List Task) (rows : List Row) (l : Limits) (w : ℕ) �
 unfolding used
 summed g ts rows l w e = ap (λ (us : List Task). used (unlinked (model us []) rows 0 0) w) e
 
-pub returns-then-memory-used-limits : goal.returns-then-memory-used-limits
-returns-then-memory-used-limits c =
-    let e = c.memory-used.ensures ∙ summed c.args.graph.now _ c.args.rows.now c.args.limits c.loop-worker.worker c.tasks-tasks.ensures.is in
+pub returns-then-memory_used-limits : goal.returns-then-memory_used-limits
+returns-then-memory_used-limits c =
+    let e = c.memory_used.ensures ∙ summed c.args.graph.now _ c.args.rows.now c.args.limits c.loop-worker.worker c.tasks-tasks.ensures.is in
     record { within = search rules; fails = λ h. omega arith; below = c.loop-worker.invariant }
 
 pub loop-worker-preserved : goal.loop-worker-preserved
 loop-worker-preserved c =
-    let e = c.memory-used.ensures ∙ summed c.args.graph.now _ c.args.rows.now c.args.limits c.loop-worker.worker c.tasks-tasks.ensures.is in
+    let e = c.memory_used.ensures ∙ summed c.args.graph.now _ c.args.rows.now c.args.limits c.loop-worker.worker c.tasks-tasks.ensures.is in
     below_more _ _ c.loop-worker.invariant (omega arith)

@@ -25,9 +25,9 @@ pub returns-then-from-to : goal.returns-then-from-to
 returns-then-from-to g c =
     let k = c.args.k in
     let j = job (model_of c.args.graph.now) c.args.rows.now no_limits (g.L.Link.arrives c.args.link.now) in
-    let ends = read-end c.args.graph.now c.args.rows.now k _ _ _ c.tasks.ensures.is c.edges.ensures c.tasks.ensures.sound c.requires.0 c.requires.1 c.end-of-end.ensures in
-    let from = read-worker c.args.graph.now c.args.rows.now k _ (λ e. e.from) _ c.edges.ensures c.row-of-from.ensures in
-    let to = read-worker c.args.graph.now c.args.rows.now k _ (λ e. e.to) _ c.edges.ensures c.row-of-to.ensures in
+    let ends = read-end c.args.graph.now c.args.rows.now k _ _ _ c.tasks.ensures.is c.edges.ensures c.tasks.ensures.sound c.requires.0 c.requires.1 c.end_of-end.ensures in
+    let from = read-worker c.args.graph.now c.args.rows.now k _ (λ e. e.from) _ c.edges.ensures c.row_of-from.ensures in
+    let to = read-worker c.args.graph.now c.args.rows.now k _ (λ e. e.to) _ c.edges.ensures c.row_of-to.ensures in
     ends ∙ sym (reaches_here j k (sym from ∙ c.if-from-to.true ∙ to))
 
 pub returns-else-from-to : goal.returns-else-from-to
@@ -35,9 +35,9 @@ returns-else-from-to g c =
     let m = model_of c.args.graph.now in
     let k = c.args.k in
     let j = job m c.args.rows.now no_limits (g.L.Link.arrives c.args.link.now) in
-    let ends = read-end c.args.graph.now c.args.rows.now k _ _ _ c.tasks.ensures.is c.edges.ensures c.tasks.ensures.sound c.requires.0 c.requires.1 c.end-of-end.ensures in
-    let from = read-worker c.args.graph.now c.args.rows.now k _ (λ e. e.from) _ c.edges.ensures c.row-of-from.ensures in
-    let to = read-worker c.args.graph.now c.args.rows.now k _ (λ e. e.to) _ c.edges.ensures c.row-of-to.ensures in
+    let ends = read-end c.args.graph.now c.args.rows.now k _ _ _ c.tasks.ensures.is c.edges.ensures c.tasks.ensures.sound c.requires.0 c.requires.1 c.end_of-end.ensures in
+    let from = read-worker c.args.graph.now c.args.rows.now k _ (λ e. e.from) _ c.edges.ensures c.row_of-from.ensures in
+    let to = read-worker c.args.graph.now c.args.rows.now k _ (λ e. e.to) _ c.edges.ensures c.row_of-to.ensures in
     let amount = ap (λ (es : List Edge). (get_or es k no_edge).amount) c.edges.ensures in
     let sent : c.arrival.result ≡ j.arrives (end j (m.from k)) (j.worker (m.from k)) (j.worker (m.to k)) (m.amount k) = cc in
     sent ∙ sym (reaches_there j k (λ h. c.if-from-to.false (from ∙ h ∙ sym to)))

@@ -6,4 +6,4 @@ use Rattle.plans.proofs.scans.above_ceiling.Goals as goal
 pub returns : goal.returns
 returns c =
     let j = unlinked (model_of c.args.graph.now) c.args.rows.now 0 0 in
-    record { is = found_is (says_in_time j) j.graph.tasks _ c.first-above.ensures; found = c.first-above.ensures }
+    record { is = found_is (says_in_time j) j.graph.tasks _ c.first_above.ensures; found = c.first_above.ensures }

@@ -6,4 +6,4 @@ use Rattle.plans.proofs.scans.unplaced.Goals as goal
 pub returns : goal.returns
 returns c =
     let j = unlinked (model_of c.args.graph.now) c.args.rows.now c.args.workers 0 in
-    record { is = found_is (says_placed j) j.graph.tasks _ c.first-unplaced.ensures; found = c.first-unplaced.ensures }
+    record { is = found_is (says_placed j) j.graph.tasks _ c.first_unplaced.ensures; found = c.first_unplaced.ensures }

@@ -11,11 +11,11 @@ returns c =
     let h = c.args.head in
     let read = c.args.read in
     let at = c.args.at in
-    let bytes : Bytes c.args.file.now = λ i. omega (arith, c.type-inv.file i) in
-    let e : record_seen c.with-record.result ≡ counted_by c.args.read (record_at c.args.file.now c.args.head c.args.read c.args.at) =
-    ap record_seen c.with-record.ensures ∙ seen_counted read c.read-record.result ∙ ap (counted_by read) c.read-record.ensures in
+    let bytes : Bytes c.args.file.now = λ i. omega (arith, c.type_inv.file i) in
+    let e : record_seen c.with_record.result ≡ counted_by c.args.read (record_at c.args.file.now c.args.head c.args.read c.args.at) =
+    ap record_seen c.with_record.ensures ∙ seen_counted read c.read_record.result ∙ ap (counted_by read) c.read_record.ensures in
     record {
       is = e;
-      law = held_there file h read at c.with-record.result bytes e;
+      law = held_there file h read at c.with_record.result bytes e;
       back = λ few i next s. e ∙ ap (counted_by read) (record_at_lem file h read at i next few s);
     }

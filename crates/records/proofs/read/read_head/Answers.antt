@@ -5,6 +5,6 @@ use Rattle.records.proofs.read.read_head.Goals as goal
 
 pub returns : goal.returns
 returns c =
-    let bytes : Bytes c.args.file.now = λ i. omega (arith, c.type-inv.file i) in
-    let e = c.read-counts.ensures in
-    record { is = e; law = opens c.args.file.now c.read-counts.result bytes e; back = λ h o. e ∙ head_at_lem c.args.file.now h o }
+    let bytes : Bytes c.args.file.now = λ i. omega (arith, c.type_inv.file i) in
+    let e = c.read_counts.ensures in
+    record { is = e; law = opens c.args.file.now c.read_counts.result bytes e; back = λ h o. e ∙ head_at_lem c.args.file.now h o }

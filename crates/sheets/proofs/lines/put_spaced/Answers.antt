@@ -5,6 +5,6 @@ use Rattle.sheets.proofs.lines.put_spaced.Goals as goal
 
 pub returns : goal.returns
 returns c = record {
-  puts = puts_next (omega arith) c.put-decimal-at.ensures c.put.ensures;
+  puts = puts_next (omega arith) c.put_decimal-at.ensures c.put.ensures;
   short = length-decimal-le 20 c.args.value (lit< tt) (omega arith) (omega arith);
 }

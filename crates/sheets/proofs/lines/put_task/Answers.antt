@@ -14,8 +14,8 @@ returns c =
     let ends = ap (λ (n : ℕ). decimal (j.start t + n)) c.time.ensures.is in
     let within : t < length c.names.result.now = omega (arith, c.names.ensures.each) in
     let name = sym (get_or-map spelled c.names.result.now t _ [] within) ∙ ap (λ (ns : List Name). get_or (map spelled ns) t []) c.names.ensures.is in
-    let start-end = puts_next w c.put-spaced-at.ensures.puts (puts_same (ap (λ (d : List ℕ). d ++ 32 ∷ []) ends) c.put-spaced-at-2.ensures.puts) in
-    let named = puts_next w (puts_next w start-end c.put-spaced-at-3.ensures.puts) (puts_same name c.put-name-at.ensures.puts) in
+    let start-end = puts_next w c.put_spaced-at.ensures.puts (puts_same (ap (λ (d : List ℕ). d ++ 32 ∷ []) ends) c.put_spaced-at-2.ensures.puts) in
+    let named = puts_next w (puts_next w start-end c.put_spaced-at-3.ensures.puts) (puts_same name c.put_name-at.ensures.puts) in
     record {
       puts = puts_next w named c.put.ensures;
       short = simp length-append (omega (arith, ap length ends, ap length name));

@@ -10,24 +10,24 @@ use Rattle.sheets.proofs.write.write.Goals as goal
 pub returns-then-lines-lt512 : goal.returns-then-lines-lt512
 returns-then-lines-lt512 g c = record { table = (refl, λ e q. refl); written = (short (omega arith), refl) }
 
-pub returns-in-err-check : goal.returns-in-err-check
-returns-in-err-check g c =
-    let p = err_from_is_err_and c.from-residual.result c.from-residual.ensures.1 in
-    record { table = (refl, λ e q. refl); written = rw (p.1, p.2) (unchecked _ (omega arith) c.in-err-check.ensures.told, refl) }
+pub returns-in_err-check : goal.returns-in_err-check
+returns-in_err-check g c =
+    let p = err_from_is_err_and c.from_residual.result c.from_residual.ensures.1 in
+    record { table = (refl, λ e q. refl); written = rw (p.1, p.2) (unchecked _ (omega arith) c.in_err-check.ensures.told, refl) }
 
 pub returns-then-needed-out : goal.returns-then-needed-out
 unfolding sheet_text
 returns-then-needed-out g c =
-    let told = c.in-ok-check.ensures.told in
+    let told = c.in_ok-check.ensures.told in
     let j = job (model_of c.args.graph.now) c.args.rows.now c.args.limits (g.L.Link.arrives c.args.link.now) in
-    let needed : c.sheet-len-needed.result ≡ length (sheet_text j (names_of c.args.graph.now)) = c.sheet-len-needed.ensures in
+    let needed : c.sheet_len-needed.result ≡ length (sheet_text j (names_of c.args.graph.now)) = c.sheet_len-needed.ensures in
     record { table = (refl, λ e q. refl); written = (rw needed (full (omega arith) told.0 told.1 (omega arith)), refl) }
 
 pub returns : goal.returns
 unfolding sheet_text
 returns g c =
-    let told = c.in-ok-check.ensures.told in
+    let told = c.in_ok-check.ensures.told in
     record {
       table = (omega arith, λ e q. absurd (let z : ◌≡◌ {A = ℕ} 0 1 = cc in omega arith));
-      written = (omega arith, told.0, told.1, puts_stands (grind arith) c.put-sheet.ensures (omega (arith, c.sheet-len-needed.ensures)));
+      written = (omega arith, told.0, told.1, puts_stands (grind arith) c.put_sheet.ensures (omega (arith, c.sheet_len-needed.ensures)));
     }

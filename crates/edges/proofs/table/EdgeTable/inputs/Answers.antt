@@ -13,8 +13,8 @@ returns-then-t-self c =
       within = λ k l. absurd (omega arith);
     }
 
-pub share-of-requires : goal.share-of-requires
-share-of-requires c =
+pub share_of-requires : goal.share_of-requires
+share_of-requires c =
     let s = c.args.self.now in
     let es = c.deref-2.ensures.value in
     let ends = c.deref-3.ensures.value in
@@ -28,7 +28,7 @@ share-of-requires c =
 pub returns : goal.returns
 returns c =
     let s = c.args.self.now in
-    let e = c.share-of.ensures ∙ ap (λ (es : List Edge). share (end_on To) es c.args.t) c.deref-2.ensures.value in
+    let e = c.share_of.ensures ∙ ap (λ (es : List Edge). share (end_on To) es c.args.t) c.deref-2.ensures.value in
     record {
       is = e;
       within = λ k l. let w = within_by To _ _ s.tasks c.args.t e s.within k l in (w.0, w.2);

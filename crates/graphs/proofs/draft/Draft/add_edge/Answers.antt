@@ -13,7 +13,7 @@ returns c =
     let d = c.args.self.now in
     let e = c.args.edge in
     let tidy = c.requires.tidy in
-    let pushed = c.in-ok-push.ensures.items in
+    let pushed = c.in_ok-push.ensures.items in
     let fresh : joined_in (vec_items c.args.self.now.edges) c.args.edge.from c.args.edge.to ≡ false =
     sym (tidy.pairs e.from e.to c.requires.ends.0 c.requires.ends.1) ∙ sym c.insert.ensures.was ∙ c.if-insert.false in (
       cond-false _ _ _ fresh ∙ ap (λ (es : List Edge). Ok (parts_over (vec_items d.tasks) (map spelled (vec_items d.names)) es)) (sym pushed),

@@ -10,12 +10,12 @@ use Rattle.graphs.proofs.Repeated.{denied_repeated}
 use Rattle.graphs.proofs.Turns.{not_both}
 use Rattle.graphs.proofs.graph.Graph.read.Goals as goal
 
-pub returns-in-err-self : goal.returns-in-err-self
-returns-in-err-self c =
+pub returns-in_err-self : goal.returns-in_err-self
+returns-in_err-self c =
     let file = c.args.file.now in
-    let p = err_from_is_err_and c.from-residual.result c.from-residual.ensures.1 in
-    let d = c.in-err-self.ensures in
-    let bytes : Bytes c.args.file.now = λ i. omega (arith, c.type-inv.file i) in
+    let p = err_from_is_err_and c.from_residual.result c.from_residual.ensures.1 in
+    let d = c.in_err-self.ensures in
+    let bytes : Bytes c.args.file.now = λ i. omega (arith, c.type_inv.file i) in
     rw (p.1, p.2)
     record {
       is = (d, c.new.ensures);
@@ -27,8 +27,8 @@ returns-in-err-self c =
 pub returns : goal.returns
 returns c =
     let file = c.args.file.now in
-    let bytes : Bytes c.args.file.now = λ i. omega (arith, c.type-inv.file i) in
-    let is = c.in-ok-self.ensures in
+    let bytes : Bytes c.args.file.now = λ i. omega (arith, c.type_inv.file i) in
+    let is = c.in_ok-self.ensures in
     let a = accepted file _ bytes is in
     record {
       is = is;

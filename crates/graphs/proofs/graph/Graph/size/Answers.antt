@@ -7,5 +7,5 @@ use Rattle.graphs.proofs.graph.Graph.size.Goals as goal
 pub returns : goal.returns
 returns c =
     let g = c.args.self.now in
-    let e = ap (λ (x : Task). x.size) (c.task-or-none.ensures ∙ ap (λ (ts : List Task). get_or ts c.args.t no_task) c.deref.ensures.value) in
+    let e = ap (λ (x : Task). x.size) (c.task_or_none.ensures ∙ ap (λ (ts : List Task). get_or ts c.args.t no_task) c.deref.ensures.value) in
     record { is = e; low = rw e ((sound g).sizes c.args.t) }

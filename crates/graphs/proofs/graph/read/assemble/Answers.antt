@@ -8,8 +8,8 @@ use Rattle.graphs.proofs.graph.read.assemble.Goals as goal
 some_byte : (ns : List Name) (t : ℕ) (d : Name) → t < length ns → 1 ≤ length (get_or (map spelled ns) t []) → 1 ≤ (get_or ns t d).len
 some_byte ns t d l h = omega (arith, ap length (get_or-map spelled ns t d [] l), length-take (get_or ns t d).len (get_or ns t d).bytes)
 
-pub invariant-of-result : goal.invariant-of-result
-invariant-of-result c =
+pub invariant_of-result : goal.invariant_of-result
+invariant_of-result c =
     let l = c.requires.limited in
     let o = c.requires.ordered in
     let ns = vec_items c.args.names in

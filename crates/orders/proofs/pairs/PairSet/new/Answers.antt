@@ -6,5 +6,5 @@ use Rattle.orders.proofs.pairs.PairSet.new.Goals as goal
 
 pub returns : goal.returns
 returns c = λ p q.
-    let words = vec_items c.in-ok-words.words in
-    joined_none words p q (none_marked words (all_zero words 4096 (c.in-ok-words.ensures.items-if-clones-equal (λ y e. e))) (p * 512 + q))
+    let words = vec_items c.in_ok-words.words in
+    joined_none words p q (none_marked words (all_zero words 4096 (c.in_ok-words.ensures.items_if_clones_equal (λ y e. e))) (p * 512 + q))

@@ -13,10 +13,10 @@ returns-in-Some g c =
     denied_outcome p.limits p.policy a m (Parameter c.in-Some.position) c.clear.new.rows c.fill.new.self
     (parameter_denied p.limits p.policy a m c.in-Some.position c.in-Some.ensures) c.clear.ensures (λ k l. search rules)
 
-pub returns-in-Some-too-large : goal.returns-in-Some-too-large
-returns-in-Some-too-large g c =
+pub returns-in-Some-too_large : goal.returns-in-Some-too_large
+returns-in-Some-too_large g c =
     let p = c.args.self.now in
     let a : Arrives = g.L.Link.arrives p.link.now in
     let m = model_of c.args.graph.now in
-    denied_outcome p.limits p.policy a m (TooLarge c.in-Some-too-large.task) c.clear-in-Some-too-large.new.rows c.fill-in-Some-too-large.new.self
-    (large_denied p.limits p.policy a m c.in-Some-too-large.task c.in-default.ensures c.in-Some-too-large.ensures) c.clear-in-Some-too-large.ensures (λ k l. search rules)
+    denied_outcome p.limits p.policy a m (TooLarge c.in-Some-too_large.task) c.clear-in-Some-too_large.new.rows c.fill-in-Some-too_large.new.self
+    (large_denied p.limits p.policy a m c.in-Some-too_large.task c.in_default.ensures c.in-Some-too_large.ensures) c.clear-in-Some-too_large.ensures (λ k l. search rules)

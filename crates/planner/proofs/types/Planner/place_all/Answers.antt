@@ -19,11 +19,11 @@ schedule-requires g c =
     let a : Arrives = g.L.Link.arrives p.link.now in
     let same : c.new-desk.result.graph.now ≡ gr = c.new-desk.ensures.graph in
     let few = (sound gr).few in
-    let fl = c.fill-levels.ensures in
-    let yes : c.fill-levels.result ≡ true = fl.answers ∙ le-leb _ _ (omega (arith, c.requires.tables.1)) in
+    let fl = c.fill_levels.ensures in
+    let yes : c.fill_levels.result ≡ true = fl.answers ∙ le-leb _ _ (omega (arith, c.requires.tables.1)) in
     let small = small_tasks p.limits p.policy a (model_of gr) c.requires.sizes in
     record {
-      levels = subst (λ (y : Graph). Levelled a (model_of y) c.fill-levels.new.levels) (sym same)
+      levels = subst (λ (y : Graph). Levelled a (model_of y) c.fill_levels.new.levels) (sym same)
           (record {
             rows = omega (arith, few, c.requires.tables.1);
             is = λ t l. fl.each yes t ∙ cond-true _ _ _ (lt-ltb _ _ l);
@@ -55,10 +55,10 @@ returns-in-Ok g c =
     let same : c.new-desk.result.graph.now ≡ gr = c.new-desk.ensures.graph in
     let d = c.schedule.new.desk in
     let there : d.graph.now ≡ gr = c.schedule.ensures.graph ∙ same in
-    let fl = c.fill-levels.ensures in
-    let yes : c.fill-levels.result ≡ true = fl.answers ∙ le-leb _ _ (omega (arith, (sound gr).few, c.requires.tables.1)) in
+    let fl = c.fill_levels.ensures in
+    let yes : c.fill_levels.result ≡ true = fl.answers ∙ le-leb _ _ (omega (arith, (sound gr).few, c.requires.tables.1)) in
     let done : after p.limits p.policy a (model_of gr) (model_of gr).tasks ≡ Ok d.seats = subst (λ (y : Graph). after p.limits p.policy a (model_of y) (model_of y).tasks ≡ Ok d.seats) same c.in-Ok.ensures.after in
-    made_outcome p.limits p.policy a (model_of gr) d.seats c.latest.result c.write-rows.new.rows c.fill-levels.new.levels
+    made_outcome p.limits p.policy a (model_of gr) d.seats c.latest.result c.write_rows.new.rows c.fill_levels.new.levels
     (planned_after p.limits p.policy a (model_of gr) c.requires.parameters c.requires.sizes ∙ done)
     (c.latest.ensures ∙ ap (λ (y : Graph). largest (end_of (model_of y) d.seats) (model_of y).tasks) there)
-    c.write-rows.ensures (fl.each yes)
+    c.write_rows.ensures (fl.each yes)

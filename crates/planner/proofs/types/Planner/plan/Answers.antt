@@ -9,13 +9,13 @@ use Rattle.planner.proofs.Outcomes.{outcome_rules, planning_enough, planning_sho
 use Rattle.planner.proofs.types.Planner.plan.Goals as goal
 
 pub fill-requires : goal.fill-requires
-fill-requires g c = enough_long _ _ _ (sym c.are-enough.ensures ∙ c.if-not-are-enough.false)
+fill-requires g c = enough_long _ _ _ (sym c.are_enough.ensures ∙ c.if-not-are_enough.false)
 
-pub returns-then-not-are-enough : goal.returns-then-not-are-enough
-returns-then-not-are-enough g c =
+pub returns-then-not-are_enough : goal.returns-then-not-are_enough
+returns-then-not-are_enough g c =
     let p = c.args.self.now in
     let a : Arrives = g.L.Link.arrives p.link.now in
-    let no = sym c.are-enough.ensures ∙ c.if-not-are-enough.true in
+    let no = sym c.are_enough.ensures ∙ c.if-not-are_enough.true in
     record {
       is = planning_short p.limits p.policy a (model_of c.args.graph.now) _ no;
       outcome = λ yes. absurd (both_ways _ no yes);
@@ -29,7 +29,7 @@ returns g c =
     let p = c.args.self.now in
     let a : Arrives = g.L.Link.arrives p.link.now in
     let gr = c.args.graph.now in
-    let yes = sym c.are-enough.ensures ∙ c.if-not-are-enough.false in
+    let yes = sym c.are_enough.ensures ∙ c.if-not-are_enough.false in
     let long : 512 ≤ length c.args.rows.now = (enough_long (length c.args.rows.now) (length c.args.levels.now) (length c.args.queue.now) yes).0 in
     let out = c.fill.ensures in
     record {

@@ -24,7 +24,7 @@ shuts s marks w es u = not (sits (at s u) w) || every_in (settles s marks) (out_
 pub loop-e-preserved : goal.loop-e-preserved
 loop-e-preserved c =
     let s = c.args.self.now in
-    (c.loop-e.invariant.0, every_in_more (settles s.seats c.args.marks.now) c.outputs-outs.result.now c.loop-e.e-index no_edge (omega arith) ∙ and_from _ _ c.loop-e.invariant.1 (sym c.is-settled.ensures ∙ c.if-not-is-settled.false))
+    (c.loop-e.invariant.0, every_in_more (settles s.seats c.args.marks.now) c.outputs-outs.result.now c.loop-e.e-index no_edge (omega arith) ∙ and_from _ _ c.loop-e.invariant.1 (sym c.is_settled.ensures ∙ c.if-not-is_settled.false))
 
 pub search-preserved : goal.search-preserved
 search-preserved c =
@@ -42,13 +42,13 @@ returns-after-search c = λ t marked.
     ∙ sym (closed_is ts es s.seats t c.args.w marks (sound s.graph.now).few (sound s.graph.now).known marked
     ∙ every_all (shuts s.seats marks c.args.w es) (length ts) (λ u l. c.search.invariant.1 u (omega (arith, ap length c.tasks-u-end.ensures.is))))
 
-pub returns-then-not-is-settled : goal.returns-then-not-is-settled
-returns-then-not-is-settled c = λ t marked.
+pub returns-then-not-is_settled : goal.returns-then-not-is_settled
+returns-then-not-is_settled c = λ t marked.
     let s = c.args.self.now in
     let ts = tasks_of s.graph.now in
     let es = edges_of s.graph.now in
     let marks = c.args.marks.now in
-    let off = ap (every_in (settles s.seats marks)) (sym c.outputs-outs.ensures.is) ∙ every_in_not (settles s.seats marks) c.outputs-outs.result.now c.loop-e.e-index no_edge (omega arith) (sym c.is-settled.ensures ∙ c.if-not-is-settled.true) in
+    let off = ap (every_in (settles s.seats marks)) (sym c.outputs-outs.ensures.is) ∙ every_in_not (settles s.seats marks) c.outputs-outs.result.now c.loop-e.e-index no_edge (omega arith) (sym c.is_settled.ensures ∙ c.if-not-is_settled.true) in
     sym (closed_is ts es s.seats t c.args.w marks (sound s.graph.now).few (sound s.graph.now).known marked
     ∙ every_not (shuts s.seats marks c.args.w es) (length ts) c.search.u (omega (arith, ap length c.tasks-u-end.ensures.is))
     (or_from _ _ (not_from_true _ (sym c.sits.ensures ∙ c.if-not-sits.false)) off))

@@ -5,8 +5,8 @@ use Rattle.steps.specs.Seats.{in_use}
 use Rattle.steps.proofs.Seats.{in_use_under}
 use Rattle.steps.proofs.desk.Desk.fits.Goals as goal
 
-pub overflow-add-result : goal.overflow-add-result
-overflow-add-result c = let s = c.args.self.now in omega (arith, s.uses c.args.w c.requires, in_use_under (model_of s.graph.now) s.seats (sound s.graph.now) c.args.w, c.size.ensures.low)
+pub overflow_add-result : goal.overflow_add-result
+overflow_add-result c = let s = c.args.self.now in omega (arith, s.uses c.args.w c.requires, in_use_under (model_of s.graph.now) s.seats (sound s.graph.now) c.args.w, c.size.ensures.low)
 
 pub returns : goal.returns
 returns c =

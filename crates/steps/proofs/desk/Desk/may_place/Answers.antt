@@ -22,9 +22,9 @@ pub returns-then-t-tasks : goal.returns-then-t-tasks
 unfolding placeable
 returns-then-t-tasks c = sym (and_left _ _ (le-ltb c.args.t (length (tasks_of c.args.self.now.graph.now)) (omega (arith, ap length c.tasks.ensures.is))))
 
-pub returns-then-is-placed : goal.returns-then-is-placed
+pub returns-then-is_placed : goal.returns-then-is_placed
 unfolding placeable
-returns-then-is-placed c = sym (and_right _ _ (and_left _ _ (not_from_true _ (sym c.is-placed.ensures ∙ c.if-is-placed.true))))
+returns-then-is_placed c = sym (and_right _ _ (and_left _ _ (not_from_true _ (sym c.is_placed.ensures ∙ c.if-is_placed.true))))
 
 pub returns-else-row-lt16 : goal.returns-else-row-lt16
 returns-else-row-lt16 c =
@@ -39,4 +39,4 @@ returns-then-row-lt16 c =
     let start = c.args.row.start in
     ap (λ (n : ℕ). leb start (2 ^ 40 - n)) c.time.ensures.is
     ∙ moved start ((model_of s.graph.now).time c.args.t) (2 ^ 40) (omega (arith, (sound s.graph.now).times c.args.t))
-    ∙ last_counts _ _ _ _ (lt-ltb c.args.t (length (tasks_of s.graph.now)) (omega (arith, ap length c.tasks.ensures.is))) (not_from_false _ (sym c.is-placed.ensures ∙ c.if-is-placed.false)) (lt-ltb c.args.row.worker 16 c.if-row-lt16.true)
+    ∙ last_counts _ _ _ _ (lt-ltb c.args.t (length (tasks_of s.graph.now)) (omega (arith, ap length c.tasks.ensures.is))) (not_from_false _ (sym c.is_placed.ensures ∙ c.if-is_placed.false)) (lt-ltb c.args.row.worker 16 c.if-row-lt16.true)

@@ -4,8 +4,8 @@ use Rattle.graphs.specs.Graphs.{model_of}
 use Rattle.steps.proofs.Places.{early_none, open_none, free_none, in_use_none}
 use Rattle.steps.proofs.desk.Desk.new.Goals as goal
 
-pub invariant-of-result : goal.invariant-of-result
-invariant-of-result c =
+pub invariant_of-result : goal.invariant_of-result
+invariant_of-result c =
     let g = model_of c.args.graph.now in (
       refl,
       (

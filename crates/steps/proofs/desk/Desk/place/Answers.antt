@@ -8,14 +8,14 @@ use Rattle.steps.proofs.desk.Desk.place.Goals as goal
 pub put-requires : goal.put-requires
 put-requires c =
     let s = c.args.self.now in
-    let p = (placeable_law (model_of s.graph.now) s.seats c.args.t c.args.row).0 (sym c.may-place.ensures ∙ c.if-not-may-place.false) in
+    let p = (placeable_law (model_of s.graph.now) s.seats c.args.t c.args.row).0 (sym c.may_place.ensures ∙ c.if-not-may_place.false) in
     record { table = omega (arith, p.task, s.graph.now.few.0); may = p }
 
-pub returns-then-not-may-place : goal.returns-then-not-may-place
-returns-then-not-may-place c =
+pub returns-then-not-may_place : goal.returns-then-not-may_place
+returns-then-not-may_place c =
     let s = c.args.self.now in
     let g = model_of s.graph.now in
-    let e : false ≡ placeable g s.seats c.args.t c.args.row = sym c.if-not-may-place.true ∙ c.may-place.ensures in
+    let e : false ≡ placeable g s.seats c.args.t c.args.row = sym c.if-not-may_place.true ∙ c.may_place.ensures in
     record {
       is = e;
       words = subst (λ (b : Bool). Decides b (Placeable g s.seats c.args.t c.args.row)) (sym e) (placeable_law g s.seats c.args.t c.args.row);
@@ -27,7 +27,7 @@ pub returns : goal.returns
 returns c =
     let s = c.args.self.now in
     let g = model_of s.graph.now in
-    let e : true ≡ placeable g s.seats c.args.t c.args.row = sym c.if-not-may-place.false ∙ c.may-place.ensures in
+    let e : true ≡ placeable g s.seats c.args.t c.args.row = sym c.if-not-may_place.false ∙ c.may_place.ensures in
     record {
       is = e;
       words = subst (λ (b : Bool). Decides b (Placeable g s.seats c.args.t c.args.row)) (sym e) (placeable_law g s.seats c.args.t c.args.row);

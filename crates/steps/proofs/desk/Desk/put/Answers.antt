@@ -7,13 +7,13 @@ use Rattle.steps.proofs.Seats.{in_use_under}
 use Rattle.steps.proofs.Places.{early_more, opens_more, frees_more, uses_more}
 use Rattle.steps.proofs.desk.Desk.put.Goals as goal
 
-pub overflow-add-used : goal.overflow-add-used
-overflow-add-used c =
+pub overflow_add-used : goal.overflow_add-used
+overflow_add-used c =
     let s = c.args.self.now in
     omega (arith, s.uses c.args.row.worker c.requires.may.worker, in_use_under (model_of s.graph.now) s.seats (sound s.graph.now) c.args.row.worker, c.size.ensures.low)
 
-pub invariant-of-self : goal.invariant-of-self
-invariant-of-self c =
+pub invariant_of-self : goal.invariant_of-self
+invariant_of-self c =
     let s = c.args.self.now in
     let g = model_of s.graph.now in
     let t = c.args.t in

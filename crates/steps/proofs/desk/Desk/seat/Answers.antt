@@ -16,7 +16,7 @@ pub returns : goal.returns
 returns g c =
     let s = c.args.self.now in
     record {
-      is = λ _. c.seat-within.ensures;
+      is = λ _. c.seat_within.ensures;
       refused = λ lt. absurd (omega arith);
       words = in_words c.args.limits (g.L.Link.arrives c.args.link.now) (model_of s.graph.now) s.seats c.args.t;
     }

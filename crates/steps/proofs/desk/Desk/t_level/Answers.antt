@@ -9,8 +9,8 @@ use Rattle.steps.specs.Seats.{end_of}
 use Rattle.steps.proofs.Seats.{t_level_of_is, t_level_of_under}
 use Rattle.steps.proofs.desk.Desk.t_level.Goals as goal
 
-pub overflow-add-end : goal.overflow-add-end
-overflow-add-end g c = omega (arith, c.end.ensures.low, c.arrival.ensures, (g.met.L.Link.lawful c.args.link.now).ceiling 0 0 1 (get_or c.inputs-inputs.result.now c.loop-e.e-index no_edge).amount)
+pub overflow_add-end : goal.overflow_add-end
+overflow_add-end g c = omega (arith, c.end.ensures.low, c.arrival.ensures, (g.met.L.Link.lawful c.args.link.now).ceiling 0 0 1 (get_or c.inputs-inputs.result.now c.loop-e.e-index no_edge).amount)
 
 pub loop-e-preserved : goal.loop-e-preserved
 loop-e-preserved g c =
