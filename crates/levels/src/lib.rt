@@ -12,7 +12,7 @@ use links::Link;
 fn level_of<L: Link>(graph: &Graph, link: &L, levels: &[u64], t: usize) -> u64
     requires rows { length (tasks_of graph.now) ≤ length levels.now }
     requires low { (k : ℕ) → slice_index levels.now k < 2 ^ 62 }
-    ensures { result ≡ level_of_task (arrives link.now) (model_of graph.now) (λ k. slice_index levels.now k) t }
+    ensures { result ≡ level_of_task (L.arrives link.now) (model_of graph.now) (λ k. slice_index levels.now k) t }
 {
     let mut longest = 0;
     let outputs = graph.outputs(t);
@@ -26,7 +26,7 @@ fn level_of<L: Link>(graph: &Graph, link: &L, levels: &[u64], t: usize) -> u64
 fn visit<L: Link>(graph: &Graph, link: &L, levels: &mut [u64])
     requires rows { length (tasks_of graph.now) ≤ length levels.old }
     requires zero { (k : ℕ) → slice_index levels.old k ≡ 0 }
-    ensures { (k : ℕ) → slice_index levels.new k ≡ level_at (arrives link.now) (model_of graph.now) k }
+    ensures { (k : ℕ) → slice_index levels.new k ≡ level_at (L.arrives link.now) (model_of graph.now) k }
 {
     let order = graph.order();
     for i in (0..order.len()).rev() {
@@ -39,10 +39,10 @@ fn visit<L: Link>(graph: &Graph, link: &L, levels: &mut [u64])
 pub fn fill_levels<L: Link>(graph: &Graph, link: &L, levels: &mut [u64]) -> bool
     ensures answers { result ≡ nat_le (length (tasks_of graph.now)) (length levels.old) }
     ensures kept { result ≡ false → levels.new ≡ levels.old }
-    ensures each { result ≡ true → (k : ℕ) → slice_index levels.new k ≡ level_at (arrives link.now) (model_of graph.now) k }
+    ensures each { result ≡ true → (k : ℕ) → slice_index levels.new k ≡ level_at (L.arrives link.now) (model_of graph.now) k }
     ensures low { result ≡ true → (k : ℕ) → slice_index levels.new k < 2 ^ 62 }
-    ensures relation { result ≡ true → Levels (arrives link.now) (model_of graph.now) (λ k. slice_index levels.new k) }
-    ensures longest { result ≡ true → (t : ℕ) → t < length (tasks_of graph.now) → Longest (arrives link.now) (model_of graph.now) (λ k. slice_index levels.new k) t }
+    ensures relation { result ≡ true → Levels (L.arrives link.now) (model_of graph.now) (λ k. slice_index levels.new k) }
+    ensures longest { result ≡ true → (t : ℕ) → t < length (tasks_of graph.now) → Longest (L.arrives link.now) (model_of graph.now) (λ k. slice_index levels.new k) t }
     ensures unique { LevelsAreUnique }
 {
     if levels.len() < graph.tasks().len() {

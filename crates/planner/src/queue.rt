@@ -27,9 +27,9 @@ fn is_ready(desk: &Desk, t: usize) -> bool
 
 // The rank of t by the policy.
 fn rank<L: Link>(planner: &Planner<L>, desk: &Desk, levels: &[u64], t: usize) -> u64
-    requires levels { Levelled (arrives planner.now.link.now) (model_of desk.now.graph.now) levels.now }
+    requires levels { Levelled (L.arrives planner.now.link.now) (model_of desk.now.graph.now) levels.now }
     requires task { t < (model_of desk.now.graph.now).tasks }
-    ensures { result ≡ rank_of planner.now.policy (arrives planner.now.link.now) (model_of desk.now.graph.now) desk.now.seats t }
+    ensures { result ≡ rank_of planner.now.policy (L.arrives planner.now.link.now) (model_of desk.now.graph.now) desk.now.seats t }
 {
     if planner.policy == 1 {
         desk.t_level(planner.link, t) + levels[t]
@@ -46,9 +46,9 @@ pub(crate) fn admit<L: Link>(
     marks: &[bool; 512],
     queue: &mut Heap<Ready>,
 )
-    requires levels { Levelled (arrives planner.now.link.now) (model_of desk.now.graph.now) levels.now }
-    requires waiting { Waiting (λ v. isReady (model_of desk.now.graph.now) desk.now.seats v && not (slice_index_or marks.now v false)) (rank_of planner.now.policy (arrives planner.now.link.now) (model_of desk.now.graph.now) desk.now.seats) (model_of desk.now.graph.now).tasks queue.old }
-    ensures { Waiting (isReady (model_of desk.now.graph.now) desk.now.seats) (rank_of planner.now.policy (arrives planner.now.link.now) (model_of desk.now.graph.now) desk.now.seats) (model_of desk.now.graph.now).tasks queue.new }
+    requires levels { Levelled (L.arrives planner.now.link.now) (model_of desk.now.graph.now) levels.now }
+    requires waiting { Waiting (λ v. isReady (model_of desk.now.graph.now) desk.now.seats v && not (slice_index_or marks.now v false)) (rank_of planner.now.policy (L.arrives planner.now.link.now) (model_of desk.now.graph.now) desk.now.seats) (model_of desk.now.graph.now).tasks queue.old }
+    ensures { Waiting (isReady (model_of desk.now.graph.now) desk.now.seats) (rank_of planner.now.policy (L.arrives planner.now.link.now) (model_of desk.now.graph.now) desk.now.seats) (model_of desk.now.graph.now).tasks queue.new }
 {
     let tasks = desk.graph().tasks().len();
     for u in 0..tasks {

@@ -23,13 +23,13 @@ fn advance<L: Link>(
     levels: &[u64],
     queue: &mut Heap<Ready>,
 ) -> Result<(), PlanFault>
-    requires levels { Levelled (arrives planner.now.link.now) (model_of desk.old.graph.now) levels.now }
-    requires going { Going planner.now.limits planner.now.policy (arrives planner.now.link.now) (model_of desk.old.graph.now) desk.old.seats queue.old }
+    requires levels { Levelled (L.arrives planner.now.link.now) (model_of desk.old.graph.now) levels.now }
+    requires going { Going planner.now.limits planner.now.policy (L.arrives planner.now.link.now) (model_of desk.old.graph.now) desk.old.seats queue.old }
     ensures graph { desk.new.graph.now ≡ desk.old.graph.now }
     ensures turn { MatchResult result
-        (λ _. (turn_of planner.now.limits planner.now.policy (arrives planner.now.link.now) (model_of desk.old.graph.now) desk.old.seats ≡ Ok desk.new.seats)
-        × Going planner.now.limits planner.now.policy (arrives planner.now.link.now) (model_of desk.old.graph.now) desk.new.seats queue.new)
-        (λ e. turn_of planner.now.limits planner.now.policy (arrives planner.now.link.now) (model_of desk.old.graph.now) desk.old.seats ≡ Err e) }
+        (λ _. (turn_of planner.now.limits planner.now.policy (L.arrives planner.now.link.now) (model_of desk.old.graph.now) desk.old.seats ≡ Ok desk.new.seats)
+        × Going planner.now.limits planner.now.policy (L.arrives planner.now.link.now) (model_of desk.old.graph.now) desk.new.seats queue.new)
+        (λ e. turn_of planner.now.limits planner.now.policy (L.arrives planner.now.link.now) (model_of desk.old.graph.now) desk.old.seats ≡ Err e) }
 {
     match queue.pop() {
         None => Ok(()),
@@ -52,15 +52,15 @@ pub(crate) fn schedule<L: Link>(
     levels: &[u64],
     queue: &mut Heap<Ready>,
 ) -> Result<(), PlanFault>
-    requires levels { Levelled (arrives planner.now.link.now) (model_of desk.old.graph.now) levels.now }
+    requires levels { Levelled (L.arrives planner.now.link.now) (model_of desk.old.graph.now) levels.now }
     requires limits { planner.now.limits.workers ≤ 16 }
     requires small { (t : ℕ) → t < (model_of desk.old.graph.now).tasks → (model_of desk.old.graph.now).size t ≤ planner.now.limits.memory }
     requires fresh { desk.old.seats ≡ nobody }
     requires queue { Kept sooner queue.old × (queueOf sooner queue.old ≡ []) × (512 ≤ room queue.old) }
     ensures graph { desk.new.graph.now ≡ desk.old.graph.now }
     ensures after { MatchResult result
-        (λ _. afterTurns planner.now.limits planner.now.policy (arrives planner.now.link.now) (model_of desk.old.graph.now) (model_of desk.old.graph.now).tasks ≡ Ok desk.new.seats)
-        (λ e. afterTurns planner.now.limits planner.now.policy (arrives planner.now.link.now) (model_of desk.old.graph.now) (model_of desk.old.graph.now).tasks ≡ Err e) }
+        (λ _. afterTurns planner.now.limits planner.now.policy (L.arrives planner.now.link.now) (model_of desk.old.graph.now) (model_of desk.old.graph.now).tasks ≡ Ok desk.new.seats)
+        (λ e. afterTurns planner.now.limits planner.now.policy (L.arrives planner.now.link.now) (model_of desk.old.graph.now) (model_of desk.old.graph.now).tasks ≡ Err e) }
 {
     let everyone = [true; 512];
     admit(planner, desk, levels, &everyone, queue);

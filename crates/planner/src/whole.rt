@@ -110,7 +110,7 @@ impl<'a, L: Link> Planner<'a, L> {
         requires tables { (512 ≤ length rows.old) × (512 ≤ length levels.old) × (512 ≤ length queue.old) }
         requires parameters { bad_parameter self.now.limits self.now.policy ≡ None }
         requires sizes { too_large_task self.now.limits (model_of graph.now) ≡ None }
-        ensures { Outcome self.now.limits self.now.policy (arrives self.now.link.now) (model_of graph.now) result rows.new levels.new }
+        ensures { Outcome self.now.limits self.now.policy (L.arrives self.now.link.now) (model_of graph.now) result rows.new levels.new }
     {
         let _ = fill_levels(graph, self.link, levels);
         let mut desk = Desk::new(graph);
@@ -136,7 +136,7 @@ impl<'a, L: Link> Planner<'a, L> {
         queue: &mut [Ready],
     ) -> Result<u64, PlanFault>
         requires { (512 ≤ length rows.old) × (512 ≤ length levels.old) × (512 ≤ length queue.old) }
-        ensures { Outcome self.now.limits self.now.policy (arrives self.now.link.now) (model_of graph.now) result rows.new levels.new }
+        ensures { Outcome self.now.limits self.now.policy (L.arrives self.now.link.now) (model_of graph.now) result rows.new levels.new }
     {
         if let Some(position) = self.outside() {
             clear(rows);
@@ -160,10 +160,10 @@ impl<'a, L: Link> Planner<'a, L> {
         levels: &mut [u64],
         queue: &mut [Ready],
     ) -> Result<u64, PlanFault>
-        ensures is { result ≡ planning (enoughRows (length rows.old) (length levels.old) (length queue.old)) self.now.limits self.now.policy (arrives self.now.link.now) (model_of graph.now) }
-        ensures outcome { enoughRows (length rows.old) (length levels.old) (length queue.old) ≡ true → Outcome self.now.limits self.now.policy (arrives self.now.link.now) (model_of graph.now) result rows.new levels.new }
+        ensures is { result ≡ planning (enoughRows (length rows.old) (length levels.old) (length queue.old)) self.now.limits self.now.policy (L.arrives self.now.link.now) (model_of graph.now) }
+        ensures outcome { enoughRows (length rows.old) (length levels.old) (length queue.old) ≡ true → Outcome self.now.limits self.now.policy (L.arrives self.now.link.now) (model_of graph.now) result rows.new levels.new }
         ensures short { enoughRows (length rows.old) (length levels.old) (length queue.old) ≡ false → (rows.new ≡ rows.old) × (levels.new ≡ levels.old) × (queue.new ≡ queue.old) }
-        ensures rules { (n : ℕ) → result ≡ Ok n → Rules (job (model_of graph.now) rows.new self.now.limits (arrives self.now.link.now)) }
+        ensures rules { (n : ℕ) → result ≡ Ok n → Rules (job (model_of graph.now) rows.new self.now.limits (L.arrives self.now.link.now)) }
         ensures laws { PlanLaws }
     {
         if !are_enough(rows.len(), levels.len(), queue.len()) {

@@ -17,15 +17,15 @@ pub fn check<L: Link>(
     limits: Limits,
     link: &L,
 ) -> Result<u64, PlanFault>
-    ensures is { result ≡ checked (length rows.now) (job (model_of graph.now) rows.now limits (arrives link.now)) }
-    ensures told { Told (length rows.now) (job (model_of graph.now) rows.now limits (arrives link.now)) result }
-    ensures accepts { Accepts (length rows.now) (job (model_of graph.now) rows.now limits (arrives link.now)) result }
+    ensures is { result ≡ checked (length rows.now) (job (model_of graph.now) rows.now limits (L.arrives link.now)) }
+    ensures told { Told (length rows.now) (job (model_of graph.now) rows.now limits (L.arrives link.now)) result }
+    ensures accepts { Accepts (length rows.now) (job (model_of graph.now) rows.now limits (L.arrives link.now)) result }
 {
     tell(graph, rows, limits, link)
 }
 
 fn tell<L: Link>(graph: &Graph, rows: &[Row], limits: Limits, link: &L) -> Result<u64, PlanFault>
-    ensures { Told (length rows.now) (job (model_of graph.now) rows.now limits (arrives link.now)) result }
+    ensures { Told (length rows.now) (job (model_of graph.now) rows.now limits (L.arrives link.now)) result }
 {
     if rows.len() < 512 {
         return Err(PlanFault::ShortTable);

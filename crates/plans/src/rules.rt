@@ -72,7 +72,7 @@ pub(crate) fn overfull(graph: &Graph, rows: &[Row], limits: Limits) -> Option<us
 // When what edge k brings is on the worker of its target.
 fn reach_of<L: Link>(graph: &Graph, rows: &[Row], link: &L, k: usize) -> u64
     requires { (k < (model_of graph.now).edges) × (Each (InTime (unlinked (model_of graph.now) rows.now 0 0)) (model_of graph.now).tasks) }
-    ensures { result ≡ reaches (job (model_of graph.now) rows.now no_limits (arrives link.now)) k }
+    ensures { result ≡ reaches (job (model_of graph.now) rows.now no_limits (L.arrives link.now)) k }
 {
     let edge = graph.edges()[k];
     let end = end_of(graph.tasks(), rows, edge.from);
@@ -88,7 +88,7 @@ fn reach_of<L: Link>(graph: &Graph, rows: &[Row], link: &L, k: usize) -> u64
 // Rule 5: the first edge whose input comes after the start of its target.
 pub(crate) fn late_input<L: Link>(graph: &Graph, rows: &[Row], link: &L) -> Option<usize>
     requires { Each (InTime (unlinked (model_of graph.now) rows.now 0 0)) (model_of graph.now).tasks }
-    ensures { Found (Fed (job (model_of graph.now) rows.now no_limits (arrives link.now))) (model_of graph.now).edges result }
+    ensures { Found (Fed (job (model_of graph.now) rows.now no_limits (L.arrives link.now))) (model_of graph.now).edges result }
 {
     let edges = graph.edges();
     for k in 0..edges.len() {

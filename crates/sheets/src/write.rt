@@ -21,11 +21,11 @@ pub fn sheet<L: Link>(
     lines: &mut [Line],
     out: &mut [u8],
 ) -> Result<usize, PlanFault>
-    ensures is { result ≡ sheeted (length rows.now) (length lines.old) (length out.old) (job (model_of graph.now) rows.now limits (arrives link.now)) (names_of graph.now) }
-    ensures bytes { out.new ≡ leaves (sheet_text (job (model_of graph.now) rows.now limits (arrives link.now)) (names_of graph.now)) out.old result }
+    ensures is { result ≡ sheeted (length rows.now) (length lines.old) (length out.old) (job (model_of graph.now) rows.now limits (L.arrives link.now)) (names_of graph.now) }
+    ensures bytes { out.new ≡ leaves (sheet_text (job (model_of graph.now) rows.now limits (L.arrives link.now)) (names_of graph.now)) out.old result }
     ensures table { Lent lines.old lines.new result }
-    ensures written { Written (length rows.now) (length lines.old) (job (model_of graph.now) rows.now limits (arrives link.now)) (names_of graph.now) out.old out.new result }
-    ensures stands { LinesStand (job (model_of graph.now) rows.now limits (arrives link.now)) (names_of graph.now) out.new result }
+    ensures written { Written (length rows.now) (length lines.old) (job (model_of graph.now) rows.now limits (L.arrives link.now)) (names_of graph.now) out.old out.new result }
+    ensures stands { LinesStand (job (model_of graph.now) rows.now limits (L.arrives link.now)) (names_of graph.now) out.new result }
 {
     write(graph, rows, limits, link, lines, out)
 }
@@ -39,7 +39,7 @@ fn write<L: Link>(
     out: &mut [u8],
 ) -> Result<usize, PlanFault>
     ensures table { Lent lines.old lines.new result }
-    ensures written { Written (length rows.now) (length lines.old) (job (model_of graph.now) rows.now limits (arrives link.now)) (names_of graph.now) out.old out.new result }
+    ensures written { Written (length rows.now) (length lines.old) (job (model_of graph.now) rows.now limits (L.arrives link.now)) (names_of graph.now) out.old out.new result }
 {
     if lines.len() < 512 {
         return Err(PlanFault::ShortTable);

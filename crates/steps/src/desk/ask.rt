@@ -75,7 +75,7 @@ impl<'a> Desk<'a> {
 
     // The t-level of t.
     pub fn t_level<L: Link>(&self, link: &L, t: usize) -> u64
-        ensures is { result ≡ t_level_of (arrives link.now) (graph_of self.now) self.now.seats t }
+        ensures is { result ≡ t_level_of (L.arrives link.now) (graph_of self.now) self.now.seats t }
         ensures low { result ≤ 2 ^ 41 }
     {
         let inputs = self.graph.inputs(t);
@@ -109,7 +109,7 @@ impl<'a> Desk<'a> {
 
     // When what e brings is on w.
     fn reach<L: Link>(&self, link: &L, e: Edge, w: usize) -> u64
-        ensures { result ≡ reachOf (arrives link.now) (graph_of self.now) self.now.seats w e.from e.amount }
+        ensures { result ≡ reachOf (L.arrives link.now) (graph_of self.now) self.now.seats w e.from e.amount }
     {
         let end = self.end(e.from);
         if self.sits(e.from, w) {
@@ -122,7 +122,7 @@ impl<'a> Desk<'a> {
     // The start of t on w.
     pub(crate) fn start_on<L: Link>(&self, link: &L, t: usize, w: usize) -> u64
         requires { w < 16 }
-        ensures { result ≡ start_on_worker (arrives link.now) (graph_of self.now) self.now.seats t w }
+        ensures { result ≡ start_on_worker (L.arrives link.now) (graph_of self.now) self.now.seats t w }
     {
         let inputs = self.graph.inputs(t);
         let mut start = self.free[w];

@@ -27,7 +27,7 @@ impl<'a> Desk<'a> {
     // What w bids in step 1: the start of t there.
     fn near<L: Link>(&self, memory: u64, link: &L, level: u64, t: usize, w: usize) -> Option<u64>
         requires { w < 16 }
-        ensures { result ≡ bids (near_by memory level (arrives link.now) (graph_of self.now) self.now.seats t w) (start_on_worker (arrives link.now) (graph_of self.now) self.now.seats t w) }
+        ensures { result ≡ bids (near_by memory level (L.arrives link.now) (graph_of self.now) self.now.seats t w) (start_on_worker (L.arrives link.now) (graph_of self.now) self.now.seats t w) }
     {
         if !self.open[w] || !self.holds(t, w) {
             return None;
@@ -71,7 +71,7 @@ impl<'a> Desk<'a> {
     // Step 1: the smallest start strictly below the level, among the open workers that hold an input of t and fit.
     fn first<L: Link>(&self, limits: Limits, link: &L, level: u64, t: usize) -> Option<usize>
         requires { limits.workers ≤ 16 }
-        ensures { result ≡ bestOf Smallest (near_by limits.memory level (arrives link.now) (graph_of self.now) self.now.seats t) (start_on_worker (arrives link.now) (graph_of self.now) self.now.seats t) limits.workers }
+        ensures { result ≡ bestOf Smallest (near_by limits.memory level (L.arrives link.now) (graph_of self.now) self.now.seats t) (start_on_worker (L.arrives link.now) (graph_of self.now) self.now.seats t) limits.workers }
     {
         let mut best: Option<Bid> = None;
         for w in 0..limits.workers {
@@ -132,7 +132,7 @@ impl<'a> Desk<'a> {
     // The worker of t, by the first step that gives one.
     fn choose<L: Link>(&self, limits: Limits, link: &L, t: usize) -> Option<usize>
         requires { limits.workers ≤ 16 }
-        ensures { result ≡ choice limits (arrives link.now) (graph_of self.now) self.now.seats t }
+        ensures { result ≡ choice limits (L.arrives link.now) (graph_of self.now) self.now.seats t }
     {
         let level = self.t_level(link, t);
         if let Some(w) = self.first(limits, link, level, t) {
@@ -151,7 +151,7 @@ impl<'a> Desk<'a> {
     // The row of t where the steps put it, or why there is none.
     fn seat_within<L: Link>(&self, limits: Limits, link: &L, t: usize) -> Result<Row, PlanFault>
         requires { limits.workers ≤ 16 }
-        ensures { result ≡ seatOf limits (arrives link.now) (graph_of self.now) self.now.seats t }
+        ensures { result ≡ seatOf limits (L.arrives link.now) (graph_of self.now) self.now.seats t }
     {
         match self.choose(limits, link, t) {
             None => Err(PlanFault::NoneFits { task: t }),
@@ -168,9 +168,9 @@ impl<'a> Desk<'a> {
 
     // The row of t by the four steps; there are at most 16 workers.
     pub fn seat<L: Link>(&self, limits: Limits, link: &L, t: usize) -> Result<Row, PlanFault>
-        ensures is { limits.workers ≤ 16 → result ≡ seatOf limits (arrives link.now) (graph_of self.now) self.now.seats t }
+        ensures is { limits.workers ≤ 16 → result ≡ seatOf limits (L.arrives link.now) (graph_of self.now) self.now.seats t }
         ensures refused { 16 < limits.workers → result ≡ Err (Parameter 1) }
-        ensures words { InWords limits (arrives link.now) (graph_of self.now) self.now.seats t }
+        ensures words { InWords limits (L.arrives link.now) (graph_of self.now) self.now.seats t }
     {
         if limits.workers > 16 {
             return Err(PlanFault::Parameter { position: 1 });

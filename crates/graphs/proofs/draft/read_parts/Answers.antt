@@ -7,10 +7,10 @@ use Rattle.graphs.specs.Files.{all_parts, parts_from, added}
 use Rattle.graphs.proofs.Drafts.{ready}
 use Rattle.graphs.proofs.Turns.{got, lost, then_goes, then_fails, turn_fails, turn_adds, turn_ends}
 use Rattle.graphs.proofs.draft.read_parts.Goals as goal
-use Rattle.graphs.proofs.draft.read_parts.Goals.{In-ok-record}
+use Rattle.graphs.proofs.draft.read_parts.Goals.{In_ok-record}
 
 -- what is left after the record that came
-turned : (c : In-ok-record) → all_parts c.args.file.now c.args.head ≡ and_then (added (seen c.in_ok-record.record) c.loop-read.at (drafted c.loop-read.draft)) (parts_from (c.args.head.tasks + c.args.head.edges - (c.loop-read.read + 1)) c.args.file.now c.args.head (c.loop-read.read + 1) c.in_ok-record.next)
+turned : (c : In_ok-record) → all_parts c.args.file.now c.args.head ≡ and_then (added (seen c.in_ok-record.record) c.loop-read.at (drafted c.loop-read.draft)) (parts_from (c.args.head.tasks + c.args.head.edges - (c.loop-read.read + 1)) c.args.file.now c.args.head (c.loop-read.read + 1) c.in_ok-record.next)
 turned c =
     let h = c.args.head in
     c.loop-read.invariant.0 ∙ turn_adds c.args.file.now h c.loop-read.read c.loop-read.at (drafted c.loop-read.draft) _ _ _ _ (omega (arith, c.loop-read-test.true)) (got _ (record_at c.args.file.now h c.loop-read.read c.loop-read.at) _ c.in_ok-record.ensures.is)
@@ -30,12 +30,12 @@ add-requires c = record {
 pub returns-in_err-add : goal.returns-in_err-add
 returns-in_err-add c =
     let p = err_from_is_err_and c.from_residual-in_err-add.result c.from_residual-in_err-add.ensures.1 in
-    let t = turned (goal.at.returns-in_err-add c).In-ok-record in
+    let t = turned (goal.at.returns-in_err-add c).In_ok-record in
     rw (p.1, p.2) (⊎_elim inl (λ e. inr (t ∙ then_fails _ _ _ e)) c.in_err-add.ensures)
 
 pub loop-read-preserved : goal.loop-read-preserved
 loop-read-preserved c =
-    let t = turned (goal.at.loop-read-preserved c).In-ok-record in
+    let t = turned (goal.at.loop-read-preserved c).In_ok-record in
     let a = c.in_ok-add.ensures in
     (t ∙ then_goes _ _ _ a.0, a.1)
 

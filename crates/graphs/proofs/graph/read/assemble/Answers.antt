@@ -13,37 +13,18 @@ invariant_of-result c =
     let l = c.requires.limited in
     let o = c.requires.ordered in
     let ns = vec_items c.args.names in
-    let named : length (vec_items c.args.names) ≡ length (vec_items c.args.tasks) = sym (length-map ns spelled) ∙ l.named in (
-      l.few,
-      (
-        c.requires.joined,
-        (
-          named,
-          (
-            (λ t tl. (l.tasks t tl).timed),
-            (
-              (λ t tl. (l.tasks t tl).sized),
-              (
-                (λ k kl. (l.edges k kl).carried),
-                (
-                  (λ t d tl. (some_byte ns t d tl (l.tasks t (omega (arith, named))).named.0, c.requires.short t d tl)),
-                  (
-                    l.single,
-                    (
-                      (o.sized.1, o.sized.0),
-                      (
-                        o.ranked,
-                        (
-                          o.places,
-                          (o.forward, tt),
-                        ),
-                      ),
-                    ),
-                  ),
-                ),
-              ),
-            ),
-          ),
-        ),
-      ),
-    )
+    let named : length (vec_items c.args.names) ≡ length (vec_items c.args.tasks) = sym (length-map ns spelled) ∙ l.named in
+    record {
+      few = l.few;
+      joined = c.requires.joined;
+      named = named;
+      times = λ t tl. (l.tasks t tl).timed;
+      sizes = λ t tl. (l.tasks t tl).sized;
+      amounts = λ k kl. (l.edges k kl).carried;
+      lengths = λ t d tl. (some_byte ns t d tl (l.tasks t (omega (arith, named))).named.0, c.requires.short t d tl);
+      single = l.single;
+      placed = (o.sized.1, o.sized.0);
+      ranked = o.ranked;
+      listed = o.places;
+      forward = o.forward;
+    }

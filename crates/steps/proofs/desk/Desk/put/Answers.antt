@@ -19,22 +19,12 @@ invariant_of-self c =
     let t = c.args.t in
     let r = c.args.row in
     let here : t < length s.seats = omega (arith, s.sized, c.requires.table) in
-    let latest = c.max-free.ensures ∙ ap (λ (n : ℕ). max (get_or s.free r.worker 0) (r.start + n)) c.time.ensures.is in (
-      length-set _ _ _ ∙ s.sized,
-      (
-        (length-set _ _ _ ∙ s.wide.0, length-set _ _ _ ∙ s.wide.1, length-set _ _ _ ∙ s.wide.2),
-        (
-          early_more g s.seats t r here s.early c.requires.may.early,
-          (
-            opens_more g s.seats t r here c.requires.may.task c.requires.may.unplaced c.requires.may.worker s.«open» s.wide.0 s.opens,
-            (
-              subst (λ (n : ℕ). (w : ℕ) → w < 16 → get_or (set s.free r.worker n) w 0 ≡ free g (put s.seats t r) w) (sym latest) (frees_more g s.seats t r here c.requires.may.task c.requires.may.unplaced c.requires.may.worker s.free s.wide.1 s.frees),
-              (
-                subst (λ (n : ℕ). (w : ℕ) → w < 16 → get_or (set s.used r.worker (get_or s.used r.worker 0 + n)) w 0 ≡ in_use g (put s.seats t r) w) (sym c.size.ensures.is) (uses_more g s.seats t r here c.requires.may.task c.requires.may.unplaced c.requires.may.worker s.used s.wide.2 s.uses),
-                tt,
-              ),
-            ),
-          ),
-        ),
-      ),
-    )
+    let latest = c.max-free.ensures ∙ ap (λ (n : ℕ). max (get_or s.free r.worker 0) (r.start + n)) c.time.ensures.is in
+    record {
+      sized = length-set _ _ _ ∙ s.sized;
+      wide = (length-set _ _ _ ∙ s.wide.0, length-set _ _ _ ∙ s.wide.1, length-set _ _ _ ∙ s.wide.2);
+      early = early_more g s.seats t r here s.early c.requires.may.early;
+      opens = opens_more g s.seats t r here c.requires.may.task c.requires.may.unplaced c.requires.may.worker s.«open» s.wide.0 s.opens;
+      frees = subst (λ (n : ℕ). (w : ℕ) → w < 16 → get_or (set s.free r.worker n) w 0 ≡ free g (put s.seats t r) w) (sym latest) (frees_more g s.seats t r here c.requires.may.task c.requires.may.unplaced c.requires.may.worker s.free s.wide.1 s.frees);
+      uses = subst (λ (n : ℕ). (w : ℕ) → w < 16 → get_or (set s.used r.worker (get_or s.used r.worker 0 + n)) w 0 ≡ in_use g (put s.seats t r) w) (sym c.size.ensures.is) (uses_more g s.seats t r here c.requires.may.task c.requires.may.unplaced c.requires.may.worker s.used s.wide.2 s.uses);
+    }
