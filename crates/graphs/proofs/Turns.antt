@@ -1,5 +1,5 @@
 -- The reader: what came, one turn of it, the head, and the order.
-use Rattle.std.proofs.Common.{◌≡◌, ℕ, zero, suc, ◌+◌, ◌-◌, ◌⊎◌, List, length, Some, Ok, Err, Option, Result, sym, refl, ap, ◌∙◌, inl, inr, arith}
+use Rattle.std.proofs.Common.{◌≡◌, ℕ, zero, suc, ◌+◌, ◌⊎◌, List, length, Some, Ok, Err, Option, Result, sym, refl, ap, ◌∙◌, inl, inr, arith}
 use Rattle.scans.specs.Scans.{lowest}
 use Rattle.edges.specs.declared.edge.Edge.{Edge}
 use Rattle.orders.specs.declared.order.OrderFault.{OrderFault}

@@ -1,5 +1,5 @@
 -- What the refusal of a full heap tells.
-use Rattle.std.specs.Prelude.{ℕ, ◌+◌, ◌-◌, ◌^◌, min}
+use Rattle.std.specs.Prelude.{◌+◌, ◌-◌, ◌^◌, min}
 use Rattle.faults.specs.declared.Fault.{Fault}
 use Rattle.faults.specs.Faults.{in_plan}
 use Rattle.heaps.specs.declared.full.HeapFull.{HeapFull}

@@ -5,7 +5,6 @@ use Rattle.std.proofs.lemmas.Bool.Decides.{nat_tests}
 use Rattle.heaps.specs.Entries.{lower, sooner, above}
 use Rattle.heaps.specs.Orders.{TotalOrder}
 use Rattle.heaps.specs.declared.entries.Line.{Line}
-use Rattle.heaps.specs.declared.entries.Ready.{Ready}
 
 pub lower_one_way : (a b : ℕ) (p q : Bool) → (p ≡ true → q ≡ false) → lower a b p ≡ true → lower b a q ≡ false
 lower_one_way a b p q h e = grind (arith, nat_tests)

@@ -1,5 +1,5 @@
 -- Rates and matrices are lawful links, and a layer over a lawful link is one.
-use Rattle.std.specs.Prelude.{◌≡◌, ℕ, ◌+◌, ◌-◌, ◌*◌, ◌/◌, ◌^◌, ◌<◌, ◌≤◌, List}
+use Rattle.std.specs.Prelude.{◌≡◌, ℕ, ◌+◌, ◌-◌, ◌*◌, ◌/◌, ◌<◌, ◌≤◌, List}
 use Rattle.std.proofs.Common.{ap, le-div_iff_mul-le, mul-le-mul_right, div-mul-le_self, arith}
 use Rattle.std.proofs.Math.Nat.{lt-div-mul-add, mul-mod_left}
 use Rattle.links.specs.Links.{Arrives, FirstMultiple, Lawful, capped, entry, matrix, packing, raised, rate, slot}

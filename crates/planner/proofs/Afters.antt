@@ -1,26 +1,26 @@
 -- What holds after some placements: the rules among the placed tasks, as many as there were turns.
-use Rattle.std.proofs.Common.{◌≡◌, ℕ, zero, suc, ◌+◌, ◌^◌, ◌<◌, ◌≤◌, max, Bool, true, false, cond, not, ◌&&◌, ◌||◌, eqb, ltb, leb, ◌⊎◌, List, length, get_or, set, replicate, is_some, Some, None, Ok, Err, Option, Result, sym, refl, ap, ◌∙◌, subst, inl, inr, add-one, arith}
+use Rattle.std.proofs.Common.{◌≡◌, ℕ, zero, suc, ◌+◌, ◌<◌, ◌≤◌, Bool, true, false, cond, not, eqb, List, length, get_or, set, is_some, Some, None, Ok, Err, Option, Result, sym, refl, ap, ◌∙◌, subst, inl, inr, add-one, arith}
 use Rattle.std.proofs.lemmas.List.{get_or-set_same, get_or-set_other, get_or_past, get_or-replicate, length-replicate}
-use Rattle.std.proofs.lemmas.Bool.{cases_lt, cases_eq, cases_Bool, both_ways, cond_both, eqb-true, eq-eqb, ne_eqb, and_parts, and_from, or_left, or_right, not-true, not-false, not_from_false}
-use Rattle.scans.specs.Scans.{total, some, every}
-use Rattle.scans.specs.Bids.{best, Chosen}
+use Rattle.std.proofs.lemmas.Bool.{cases_lt, cases_eq, cases_Bool, both_ways, cond_both, eqb-true, eq-eqb, and_parts, and_from, or_left, or_right, not-true, not-false, not_from_false}
+use Rattle.scans.specs.Scans.{total}
+use Rattle.scans.specs.Bids.{Chosen}
 use Rattle.scans.specs.declared.Aim.TheVariants.{Smallest, Largest}
-use Rattle.scans.proofs.Scans.{every_all, every_at, total_one, total_put, total_zero, total_full, total_same, some_none}
+use Rattle.scans.proofs.Scans.{every_all, total_one, total_put, total_zero, total_full, total_same, some_none}
 use Rattle.scans.proofs.Bids.{best_is_chosen}
-use Rattle.graphs.specs.Model.{TaskGraph, Known, Acyclic, Sound}
-use Rattle.links.specs.Links.{Arrives, Lawful}
+use Rattle.graphs.specs.Model.{TaskGraph, Known, Acyclic}
+use Rattle.links.specs.Links.{Arrives}
 use Rattle.plans.specs.declared.types.Row.{Row}
 use Rattle.plans.specs.declared.types.Limits.{Limits}
 use Rattle.plans.specs.declared.fault.PlanFault.{PlanFault}
-use Rattle.plans.specs.Jobs.{Job, job, no_row}
+use Rattle.plans.specs.Jobs.{job, no_row}
 use Rattle.plans.specs.Rules.{Rules, used, reaches}
 use Rattle.plans.specs.Rules.{size_on as sizesOn}
-use Rattle.steps.specs.Seats.{Seats, nobody, at, sits, sits_on, end_of, placed, Early, open_test, in_use, size_on, reach}
+use Rattle.steps.specs.Seats.{Seats, nobody, at, sits, sits_on, placed, open_test, in_use, size_on}
 use Rattle.steps.specs.Steps.{seat}
 use Rattle.planner.specs.Turns.{brings, ready, rank, next, put, place, turn, go_on, after}
-use Rattle.planner.specs.Plans.{row_of, row_at, Rows}
+use Rattle.planner.specs.Plans.{row_of}
 use Rattle.planner.proofs.Choices.{wins, none_wins}
-use Rattle.planner.specs.Goods.{Good, begin}
+use Rattle.planner.specs.Goods.{Good}
 use Rattle.planner.proofs.Goods.{good_more}
 
 nobody_at : (t : ℕ) → at nobody t ≡ None

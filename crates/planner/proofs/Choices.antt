@@ -1,8 +1,7 @@
 -- Which worker the four steps can choose, and bounds on starts and levels.
-use Rattle.std.proofs.Common.{◌≡◌, ℕ, zero, suc, ◌+◌, ◌^◌, ◌<◌, ◌≤◌, max, Bool, true, false, cond, not, ◌&&◌, ◌||◌, ◌⊎◌, Some, None, Option, sym, refl, ap, ◌∙◌, subst, inl, inr, arith}
-use Rattle.std.proofs.lemmas.Bool.{cases_Bool, cond_both, and_parts, not-true, not-false}
+use Rattle.std.proofs.Common.{◌≡◌, ℕ, ◌^◌, ◌<◌, ◌≤◌, Bool, true, false, not, ◌⊎◌, Some, None, Option, subst, inl, inr, arith}
+use Rattle.std.proofs.lemmas.Bool.{cond_both, and_parts, not-true, not-false}
 use Rattle.std.proofs.lemmas.Bool.Decides.{nat_tests}
-use Rattle.scans.specs.Scans.{largest, lowest}
 use Rattle.scans.specs.Bids.{best, Chosen}
 use Rattle.scans.specs.declared.Aim.{Aim}
 use Rattle.scans.specs.declared.Aim.TheVariants.{Smallest, Largest}
@@ -11,7 +10,7 @@ use Rattle.scans.proofs.Bids.{best_is_chosen}
 use Rattle.graphs.specs.Model.{TaskGraph}
 use Rattle.links.specs.Links.{Arrives, Lawful}
 use Rattle.plans.specs.declared.types.Limits.{Limits}
-use Rattle.steps.specs.Seats.{Seats, at, sits, host, end_of, Early, open_test, free, end_on, fits, nominal_at, t_level_of, reach, input_at, start_on_worker}
+use Rattle.steps.specs.Seats.{Seats, at, sits, host, end_of, Early, open_test, free, end_on, fits, input_at, start_on_worker}
 use Rattle.steps.specs.Steps.{near, spent, roomy, step1, step2, step3, step4, choice}
 use Rattle.steps.specs.Steps.{or_else as orNext}
 

@@ -1,17 +1,17 @@
 -- One placement keeps the rules among the tasks placed so far.
-use Rattle.std.proofs.Common.{◌≡◌, ℕ, zero, suc, ◌+◌, ◌^◌, ◌<◌, ◌≤◌, max, Bool, true, false, cond, not, ◌&&◌, ◌||◌, eqb, leb, ◌⊎◌, length, get_or, set, replicate, is_some, Some, None, Ok, Err, Option, Result, sym, refl, ap, ◌∙◌, subst, inl, inr, arith}
-use Rattle.std.proofs.lemmas.List.{get_or-set_same, get_or-set_other, length-set, get_or_past, get_or-replicate, length-replicate}
-use Rattle.std.proofs.lemmas.Bool.{cases_lt, cases_eq, cases_Bool, both_ways, cond_both, leb-true, eqb-true, eq-eqb, and_parts, or_cases, not-true}
-use Rattle.scans.specs.Scans.{largest, total, some, every}
+use Rattle.std.proofs.Common.{◌≡◌, ℕ, ◌+◌, ◌^◌, ◌<◌, ◌≤◌, true, false, cond, eqb, leb, ◌⊎◌, length, set, is_some, Some, None, Ok, Option, Result, sym, refl, ap, ◌∙◌, subst, inl, inr, arith}
+use Rattle.std.proofs.lemmas.List.{get_or-set_same, get_or-set_other, length-set}
+use Rattle.std.proofs.lemmas.Bool.{cases_lt, cases_eq, cases_Bool, both_ways, leb-true, eqb-true, eq-eqb, and_parts, or_cases, not-true}
+use Rattle.scans.specs.Scans.{total, some}
 use Rattle.scans.proofs.Scans.{largest_above, every_at, total_put, total_zero, some_one, some_is, some_not}
-use Rattle.graphs.specs.Model.{TaskGraph, Sound}
+use Rattle.graphs.specs.Model.{TaskGraph}
 use Rattle.links.specs.Links.{Arrives}
 use Rattle.plans.specs.declared.types.Row.{Row}
 use Rattle.plans.specs.declared.types.Limits.{Limits}
 use Rattle.plans.specs.declared.fault.PlanFault.{PlanFault}
-use Rattle.steps.specs.Seats.{Seats, nobody, at, sits, sits_on, over, host, end_of, placed, Early, open_test, free, in_use, end_on, size_on, fits, reach, input_at, start_on_worker}
+use Rattle.steps.specs.Seats.{Seats, at, sits, sits_on, end_of, placed, open_test, free, in_use, end_on, size_on, reach, input_at, start_on_worker}
 use Rattle.steps.specs.Steps.{choice, seat_at, seat}
-use Rattle.planner.specs.Goods.{begin, Good}
+use Rattle.planner.specs.Goods.{Good}
 use Rattle.planner.specs.Turns.{brings, ready}
 use Rattle.planner.proofs.Choices.{Candidate, choice_in}
 

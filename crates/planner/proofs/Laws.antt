@@ -1,21 +1,21 @@
 -- The laws of every plan.
-use Rattle.std.proofs.Common.{◌≡◌, ℕ, ◌<◌, ◌≤◌, Bool, true, false, cond, ◌&&◌, ltb, List, length, get_or, is_some, Some, None, Ok, Err, Option, Result, sym, refl, ap, ◌∙◌, inl, inr, arith}
-use Rattle.std.proofs.lemmas.Bool.{cases_lt, cases_Bool, ltb-false, leb-true, and_parts, eq-eqb}
+use Rattle.std.proofs.Common.{◌≡◌, ℕ, ◌<◌, ◌≤◌, true, ltb, length, is_some, Some, None, Ok, Option, Result, sym, refl, ap, ◌∙◌, arith}
+use Rattle.std.proofs.lemmas.Bool.{ltb-false, eq-eqb}
 use Rattle.scans.specs.declared.Aim.TheVariants.{Largest}
 use Rattle.scans.proofs.Bids.{best_is_chosen}
 use Rattle.scans.proofs.Scans.{lowest_all}
-use Rattle.graphs.specs.Model.{TaskGraph, Sound}
+use Rattle.graphs.specs.Model.{TaskGraph}
 use Rattle.links.specs.Links.{Arrives}
 use Rattle.plans.specs.declared.types.Row.{Row}
 use Rattle.plans.specs.declared.types.Limits.{Limits}
 use Rattle.plans.specs.declared.fault.PlanFault.{PlanFault}
-use Rattle.plans.specs.Jobs.{job, no_row}
-use Rattle.plans.specs.Rules.{Rules, Allowed, latest}
-use Rattle.plans.specs.Checked.{between, bad_limit, unless}
+use Rattle.plans.specs.Jobs.{job}
+use Rattle.plans.specs.Rules.{latest}
+use Rattle.plans.specs.Checked.{bad_limit, unless}
 use Rattle.plans.proofs.Told.{told_is, none_allowed}
-use Rattle.steps.specs.Seats.{Seats, at, sits, host, placed}
+use Rattle.steps.specs.Seats.{Seats, at, sits, host}
 use Rattle.planner.specs.Turns.{next, ready, rank, after}
-use Rattle.planner.specs.Plans.{or_policy, bad_parameter, too_large_task, planned, row_of, Rows}
+use Rattle.planner.specs.Plans.{or_policy, bad_parameter, too_large_task, planned}
 use Rattle.planner.specs.Laws.{NextInWords, OpenedFromLowest, PlacedAfterInputs, PlansPass, PlanLaws}
 use Rattle.planner.proofs.Afters.{after_good, all_placed, rules}
 

@@ -1,10 +1,9 @@
 -- What planning leaves, from what it met: a parameter, a task that is too large, a denied placement, or a plan.
-use Rattle.std.proofs.Common.{◌≡◌, ℕ, ◌<◌, ◌≤◌, Bool, true, false, cond, ◌&&◌, ltb, leb, List, [], length, get_or, Some, None, Ok, Err, Option, Result, sym, refl, ap, ◌∙◌, subst, arith}
+use Rattle.std.proofs.Common.{◌≡◌, ℕ, ◌<◌, ◌≤◌, Bool, true, false, ltb, List, [], length, get_or, Some, None, Ok, Err, Option, Result, sym, refl, ap, ◌∙◌, arith}
 use Rattle.std.proofs.lemmas.Bool.{and_parts, leb-true, ltb-false}
 use Rattle.scans.specs.Scans.{largest}
 use Rattle.scans.proofs.Scans.{lowest_all}
 use Rattle.graphs.specs.Model.{TaskGraph, Sound}
-use Rattle.levels.specs.Levels.{b_level_of}
 use Rattle.levels.specs.Levels.{level_at as levelOfIndex}
 use Rattle.links.specs.Links.{Arrives}
 use Rattle.plans.specs.declared.types.Row.{Row}
@@ -13,12 +12,11 @@ use Rattle.plans.specs.declared.fault.PlanFault.{PlanFault}
 use Rattle.plans.specs.declared.fault.PlanFault.TheVariants.{Parameter, TooLarge, ShortTable}
 use Rattle.plans.specs.Jobs.{job, no_row}
 use Rattle.plans.specs.Rules.{Rules}
-use Rattle.plans.specs.Checked.{bad_limit, unless}
+use Rattle.plans.specs.Checked.{bad_limit}
 use Rattle.plans.proofs.Told.{none_allowed}
 use Rattle.steps.specs.Seats.{Seats, at, end_of}
 use Rattle.planner.specs.Turns.{after}
-use Rattle.planner.specs.Plans.{or_policy, bad_parameter, too_large_task, planned, answer, row_of, row_at, level_at, Rows, Levels, enough, planning, Outcome}
-use Rattle.planner.specs.Laws.{PlanLaws}
+use Rattle.planner.specs.Plans.{or_policy, bad_parameter, too_large_task, planned, answer, row_of, row_at, level_at, enough, planning, Outcome}
 use Rattle.planner.proofs.Laws.{plan_laws}
 
 module _ (limits : Limits) (policy : ℕ) (arrives : Arrives) (g : TaskGraph) where

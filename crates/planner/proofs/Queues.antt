@@ -1,5 +1,5 @@
 -- The heap holds the ready tasks: after a push, after a pop, and once the task that came out is placed.
-use Rattle.std.proofs.Common.{◌≡◌, ℕ, zero, suc, ◌+◌, ◌<◌, ◌≤◌, Bool, true, false, cond, not, ◌&&◌, ◌||◌, eqb, ltb, ◌⊎◌, List, [], ◌∷◌, length, take, set, Some, None, Option, sym, refl, ap, ◌∙◌, subst, inl, inr, arith, length-take}
+use Rattle.std.proofs.Common.{◌≡◌, ℕ, ◌+◌, ◌<◌, ◌≤◌, Bool, true, false, not, ◌&&◌, ◌||◌, eqb, ltb, ◌⊎◌, [], ◌∷◌, length, set, Some, None, sym, refl, ap, ◌∙◌, subst, inl, inr, arith, length-take}
 use Rattle.std.proofs.lemmas.List.{get_or-set_same, get_or-set_other}
 use Rattle.std.proofs.lemmas.Bool.{cases_eq, cases_Bool, both_ways, eqb-true, eq-eqb, ne_eqb, and_parts, and_right, or_cases, or_from, not-true, not_from_true, lt-ltb, le-ltb}
 use Rattle.std.proofs.lemmas.Bool.Decides.{nat_tests}
@@ -9,7 +9,7 @@ use Rattle.heaps.specs.Entries.{sooner}
 use Rattle.heaps.specs.Heaps.{room, entries, Kept, queue, Pushed, Gave}
 use Rattle.heaps.specs.Orders.{insert}
 use Rattle.heaps.proofs.Inserts.{length_ordered}
-use Rattle.scans.specs.Scans.{some, every}
+use Rattle.scans.specs.Scans.{every}
 use Rattle.scans.proofs.Scans.{some_is, some_not, every_at, every_not, every_same, largest_same}
 use Rattle.graphs.specs.Model.{TaskGraph}
 use Rattle.links.specs.Links.{Arrives}

@@ -1,5 +1,5 @@
 -- Whether a task is ready, by the edges into it.
-use Rattle.std.proofs.Common.{◌≡◌, ℕ, Bool, true, false, not, ◌&&◌, eqb, List, sym, refl, ap, ◌∙◌}
+use Rattle.std.proofs.Common.{◌≡◌, ℕ, Bool, true, false, not, ◌&&◌, eqb, List, sym, ap, ◌∙◌}
 use Rattle.scans.specs.Scans.{every_in}
 use Rattle.scans.proofs.Lists.{every_kept}
 use Rattle.edges.specs.declared.edge.Edge.{Edge}

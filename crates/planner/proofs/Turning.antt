@@ -1,5 +1,5 @@
 -- One turn of planning: the first of the heap is placed, and its successors that became ready join.
-use Rattle.std.proofs.Common.{◌≡◌, ℕ, ◌+◌, ◌^◌, ◌<◌, ◌≤◌, Bool, true, false, cond, not, ◌&&◌, ltb, leb, List, [], length, get_or, set, Some, None, Ok, Err, Option, Result, sym, refl, ap, ◌∙◌, subst, arith}
+use Rattle.std.proofs.Common.{◌≡◌, ℕ, ◌<◌, Bool, true, false, not, ◌&&◌, List, [], length, get_or, set, Some, Ok, Err, sym, refl, ap, ◌∙◌, arith}
 use Rattle.std.proofs.lemmas.Bool.{and_from, lt-ltb, le-leb, not_from_false}
 use Rattle.graphs.specs.Model.{TaskGraph}
 use Rattle.heaps.specs.declared.entries.Ready.{Ready}
@@ -10,10 +10,9 @@ use Rattle.links.specs.Links.{Arrives}
 use Rattle.plans.specs.declared.types.Row.{Row}
 use Rattle.plans.specs.declared.types.Limits.{Limits}
 use Rattle.plans.specs.declared.fault.PlanFault.{PlanFault}
-use Rattle.steps.specs.Seats.{Seats, placed, placeable, follows, Marks}
+use Rattle.steps.specs.Seats.{Seats, placed, placeable, Marks}
 use Rattle.steps.specs.Steps.{choice, seat}
 use Rattle.planner.specs.Turns.{ready, rank, next, put, place, turn}
-use Rattle.planner.specs.Goods.{Good}
 use Rattle.planner.specs.Queues.{apart_from, Waiting}
 use Rattle.planner.specs.States.{Going}
 use Rattle.planner.proofs.Choices.{choice_in}

@@ -1,11 +1,11 @@
 -- Each test says what its rule says, and so what a scan finds is the lowest number that fails the test.
-use Rattle.std.proofs.Common.{◌≡◌, ℕ, ◌^◌, ◌<◌, ◌≤◌, Bool, true, false, not, ◌&&◌, ◌||◌, eqb, leb, ◌⊎◌, Some, None, Option, sym, refl, subst, inl, inr, arith}
-use Rattle.std.proofs.lemmas.Bool.{le-leb, leb-true, lt-ltb, ltb-true, cases_lt, cases_Bool, not_from_true, not_from_false}
+use Rattle.std.proofs.Common.{◌≡◌, ℕ, ◌≤◌, Bool, true, false, not, ◌||◌, eqb, leb, ◌⊎◌, Some, None, Option, sym, refl, inl, inr, arith}
+use Rattle.std.proofs.lemmas.Bool.{le-leb, leb-true, lt-ltb, ltb-true, cases_lt, not_from_true, not_from_false}
 use Rattle.std.proofs.lemmas.Bool.Decides.{nat_tests}
 use Rattle.scans.proofs.Scans.{every_all, every_at, lowest_none, lowest_is}
 use Rattle.plans.specs.Jobs.{Job}
 use Rattle.plans.specs.Rules.{end, Placed, InTime, Alone, Roomy, Fed, Each, Lowest, Found}
-use Rattle.plans.specs.Checked.{placed_test, in_time_test, apart_test, alone_test, roomy_test, fed_test, failing}
+use Rattle.plans.specs.Checked.{placed_test, in_time_test, alone_test, roomy_test, fed_test, failing}
 
 pub record Says (P : ℕ → Type 0) (p : ℕ → Bool) : Type 0 where
   pub yes : (k : ℕ) → P k → p k ≡ true

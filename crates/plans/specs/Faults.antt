@@ -1,5 +1,4 @@
 -- The four numbers of a plan's fault.
-use Rattle.std.specs.Prelude.{ℕ}
 use Rattle.faults.specs.declared.Fault.{Fault}
 use Rattle.faults.specs.Faults.{in_plan}
 use Rattle.records.specs.Faults.{record_tells}

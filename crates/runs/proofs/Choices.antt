@@ -1,12 +1,11 @@
 -- The same choice from tests that agree, the one choice that beats all others, and the lowest after one more passes.
-use Rattle.std.proofs.Common.{◌≡◌, ℕ, zero, suc, ◌<◌, ◌≤◌, min, Bool, true, false, ◌||◌, eqb, ◌⊎◌, Some, None, Option, sym, refl, ap, ◌∙◌, subst, inl, inr, arith}
-use Rattle.std.proofs.lemmas.Bool.{cases_eq, cases_lt, both_ways, eq-eqb}
+use Rattle.std.proofs.Common.{◌≡◌, ℕ, zero, suc, ◌<◌, Bool, true, Some, None, Option, refl, ap, ◌∙◌, inl, inr, arith}
+use Rattle.std.proofs.lemmas.Bool.{cases_eq, both_ways}
 use Rattle.scans.specs.Scans.{lowest}
 use Rattle.scans.specs.declared.Aim.{Aim}
 use Rattle.scans.specs.declared.Aim.TheVariants.{Smallest, Largest}
 use Rattle.scans.specs.Bids.{best_bid, bidder, bids, best, NoWorse, Better, Chosen}
 use Rattle.scans.proofs.Bids.{best_is_chosen}
-use Rattle.scans.proofs.Scans.{lowest_none, lowest_is, lowest_all, lowest_found}
 
 best_bid_same : (aim : Aim) (p q : ℕ → Bool) (key : ℕ → ℕ) (n : ℕ) → ((k : ℕ) → k < n → p k ≡ q k) → best_bid aim (λ v. bids (p v) (key v)) n ≡ best_bid aim (λ v. bids (q v) (key v)) n
 best_bid_same aim p q key zero h = refl

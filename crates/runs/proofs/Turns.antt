@@ -1,9 +1,9 @@
 -- What next tells, in a run whose done tasks keep to the plan.
-use Rattle.std.proofs.Common.{◌≡◌, ℕ, ◌+◌, ◌^◌, ◌<◌, ◌≤◌, max, Bool, true, false, cond, not, ◌&&◌, eqb, ltb, leb, ◌⊎◌, length, get_or, set, is_some, Some, None, Ok, Err, Option, Result, sym, refl, ap, ◌∙◌, subst, inl, inr, arith}
+use Rattle.std.proofs.Common.{◌≡◌, ℕ, ◌^◌, ◌<◌, ◌≤◌, Bool, true, false, cond, not, ◌&&◌, eqb, ltb, ◌⊎◌, length, is_some, Some, None, Ok, Err, Option, Result, sym, refl, ap, ◌∙◌, subst, inl, inr, arith}
 use Rattle.std.proofs.lemmas.Bool.{cases_lt, cases_eq, cond_both, cond-true, eqb-true, eq-eqb, and_parts, and_from, ltb-true, lt-ltb, ltb-false, both_ways}
-use Rattle.scans.specs.Scans.{largest, some, lowest}
+use Rattle.scans.specs.Scans.{largest, lowest}
 use Rattle.scans.specs.declared.Aim.TheVariants.{Smallest, Largest}
-use Rattle.scans.specs.Bids.{best, Chosen}
+use Rattle.scans.specs.Bids.{Chosen}
 use Rattle.scans.proofs.Bids.{best_is_chosen}
 use Rattle.scans.proofs.Scans.{largest_above, largest_under, some_one, some_is, lowest_all, lowest_found}
 use Rattle.links.specs.Links.{Lawful as Links}
@@ -11,9 +11,9 @@ use Rattle.plans.specs.Jobs.{Job}
 use Rattle.plans.specs.Rules.{end, reaches_by, reaches}
 use Rattle.runs.specs.declared.types.Span.{Span}
 use Rattle.runs.specs.declared.types.RunFault.{RunFault}
-use Rattle.runs.specs.declared.types.RunFault.TheVariants.{NoWorker, NoTaskLeft, InputMissing}
+use Rattle.runs.specs.declared.types.RunFault.TheVariants.{NoWorker}
 use Rattle.runs.specs.Runs.{Spans, at, done_test, ended, waits_test, head, before_test, ahead, joins_test, input_test, missing, end_of, brought, begin_of, Turn, turn, turn_of, next}
-use Rattle.runs.specs.Logs.{Did, Before, Feeds, After, Head, Fed, Begins, Missing, Unready, no_worker, no_task_left, no_input, Planned}
+use Rattle.runs.specs.Logs.{Did, Before, Feeds, After, Head, Fed, Begins, Unready, no_worker, no_task_left, no_input, Planned}
 
 pub done_or : (o : Option Span) → (o ≡ None) ⊎ ((x : Span) × (o ≡ Some x))
 done_or None = inl refl

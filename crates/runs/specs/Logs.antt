@@ -1,5 +1,5 @@
 -- The loader's log, and what holds at every line of it.
-use Rattle.std.specs.Prelude.{◌≡◌, ℕ, ◌+◌, ◌<◌, ◌≤◌, cond, ◌⊎◌, List, [], ◌∷◌, ◌++◌, length, take, Some, None, Ok, Err, Option, Result, slice_set}
+use Rattle.std.specs.Prelude.{◌≡◌, ℕ, ◌+◌, ◌<◌, ◌≤◌, cond, ◌⊎◌, List, [], ◌∷◌, ◌++◌, take, Some, None, Ok, Err, slice_set}
 use Rattle.scans.specs.Scans.{total}
 use Rattle.graphs.specs.Model.{Sound}
 use Rattle.plans.specs.Jobs.{Job}
@@ -11,7 +11,7 @@ use Rattle.runs.specs.declared.types.Call.{Call}
 use Rattle.runs.specs.declared.types.Call.TheVariants.{Next, Done}
 use Rattle.runs.specs.declared.types.Line.{Line}
 use Rattle.runs.specs.declared.types.Line.TheVariants.{Opened, Asked, Reported}
-use Rattle.runs.specs.Runs.{Spans, at, done_test, fresh, begin_of, Turn, Report, span_of, next, done, answered, left}
+use Rattle.runs.specs.Runs.{Spans, at, done_test, fresh, begin_of, Report, span_of, next, done, answered, left}
 
 -- ---- tasks of a run, in relations
 

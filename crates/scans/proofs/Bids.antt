@@ -1,5 +1,5 @@
 -- The best bid is the one that is to be chosen.
-use Rattle.std.proofs.Common.{◌≡◌, ℕ, zero, suc, ◌+◌, ◌<◌, ◌≤◌, Bool, true, false, cond, Some, None, Option, refl, add-one, arith}
+use Rattle.std.proofs.Common.{◌≡◌, ℕ, zero, suc, ◌+◌, ◌<◌, Bool, true, false, Some, None, Option, refl, add-one, arith}
 use Rattle.std.proofs.lemmas.Bool.{cond_both, ltb-true, ltb-false}
 use Rattle.scans.specs.Bids.{Aim, Smallest, Largest, Bid, beats, bid_of, outbids, best_bid, bidder, bids, best, NoWorse, Better, Chosen, BestIsChosen}
 use Rattle.scans.proofs.Scans.{each_more}

@@ -1,8 +1,7 @@
 -- What the tasks placed so far tell: scans of all edges as scans of the edges of one task, and limits.
-use Rattle.std.proofs.Common.{◌≡◌, ℕ, zero, suc, ◌+◌, ◌*◌, ◌^◌, ◌<◌, ◌≤◌, max, Bool, true, false, cond, not, ◌&&◌, ◌||◌, eqb, List, length, get_or, sym, refl, ap, ◌∙◌, inl, inr, arith}
-use Rattle.std.proofs.lemmas.Bool.{cases_Bool, cond_both, eqb-true, eq-eqb, or_parts, or_from, or_left, or_right, not-false, not_from_true}
-use Rattle.std.proofs.lemmas.Bool.Decides.{nat_tests}
-use Rattle.scans.specs.Scans.{largest, total, some, every, largest_in, some_in, every_in}
+use Rattle.std.proofs.Common.{◌≡◌, ℕ, zero, suc, ◌+◌, ◌*◌, ◌^◌, ◌≤◌, max, Bool, true, false, not, ◌||◌, eqb, List, length, get_or, sym, refl, ap, ◌∙◌, inl, inr, arith}
+use Rattle.std.proofs.lemmas.Bool.{cases_Bool, cond_both, eqb-true, eq-eqb, or_parts, or_from, or_right, not_from_true}
+use Rattle.scans.specs.Scans.{total, every, largest_in, some_in, every_in}
 use Rattle.scans.proofs.Scans.{largest_under, every_all, every_at, every_not, every_fails, every_same}
 use Rattle.scans.proofs.Lists.{largest_kept, some_kept, every_kept}
 use Rattle.edges.specs.declared.edge.Edge.{Edge}
@@ -11,7 +10,7 @@ use Rattle.graphs.specs.declared.types.Task.{Task}
 use Rattle.graphs.specs.Model.{TaskGraph, model, Known, Sound}
 use Rattle.levels.specs.Levels.{nominal}
 use Rattle.links.specs.Links.{Arrives, Lawful}
-use Rattle.steps.specs.Seats.{Seats, at, sits, host, placed, end_of, Early, free, end_on, in_use, size_on, follows, Marks, holds, settled, shut, closed, nominal_at, t_level_of, reach, input_at, start_on_worker}
+use Rattle.steps.specs.Seats.{Seats, at, sits, host, placed, end_of, Early, free, end_on, in_use, size_on, follows, Marks, holds, shut, closed, nominal_at, t_level_of, reach, input_at, start_on_worker}
 
 module _ (ts : List Task) (es : List Edge) where
   pub follows_is : (t v : ℕ) → follows (model ts es) t v ≡ some_in (λ (e : Edge). eqb e.to v) (out_of es t)

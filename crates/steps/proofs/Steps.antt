@@ -1,7 +1,6 @@
 -- What the four steps choose.
-use Rattle.std.proofs.Common.{◌≡◌, ℕ, ◌+◌, ◌^◌, ◌<◌, ◌≤◌, Bool, true, false, not, ◌&&◌, ◌⊎◌, Some, None, Ok, Err, Option, Result, sym, refl, ap, ◌∙◌, subst, inl, inr, arith}
+use Rattle.std.proofs.Common.{◌≡◌, ℕ, ◌+◌, ◌^◌, ◌<◌, ◌≤◌, Bool, true, false, not, ◌⊎◌, Some, None, Ok, Err, Option, Result, sym, refl, ap, ◌∙◌, subst, inl, inr}
 use Rattle.std.proofs.lemmas.Bool.{and_parts, not-true, not-false, le-leb, lt-leb, cond-true, cond-false}
-use Rattle.scans.specs.Scans.{lowest}
 use Rattle.scans.specs.Bids.{Chosen, best}
 use Rattle.scans.specs.declared.Aim.{Aim}
 use Rattle.scans.specs.declared.Aim.TheVariants.{Smallest, Largest}
@@ -13,7 +12,7 @@ use Rattle.plans.specs.declared.types.Row.{Row}
 use Rattle.plans.specs.declared.types.Limits.{Limits}
 use Rattle.plans.specs.declared.fault.PlanFault.{PlanFault}
 use Rattle.plans.specs.declared.fault.PlanFault.TheVariants.{NoneFits, TooLate}
-use Rattle.steps.specs.Seats.{Seats, open_test, fits, free, holds, closed, t_level_of, start_on_worker}
+use Rattle.steps.specs.Seats.{Seats, open_test, fits, free, t_level_of, start_on_worker}
 use Rattle.steps.specs.Steps.{or_else, near_by, spent_by, near, spent, roomy, unopened, step1, step2, step3, step4, choice, seat_at, seat}
 use Rattle.steps.specs.Laws.{Unopened, InWords}
 

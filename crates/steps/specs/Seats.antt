@@ -1,5 +1,5 @@
 -- Where the tasks placed so far sit, and what follows from it: free ticks, memory in use, levels and starts.
-use Rattle.std.specs.Prelude.{◌≡◌, ℕ, ◌+◌, ◌^◌, ◌<◌, ◌≤◌, max, Bool, true, false, cond, not, ◌&&◌, ◌||◌, List, replicate, is_some, Some, None, Option, ◌==◌, nat_le, nat_lt, slice_index_or, slice_set}
+use Rattle.std.specs.Prelude.{◌≡◌, ℕ, ◌+◌, ◌^◌, ◌<◌, ◌≤◌, max, Bool, false, cond, not, ◌&&◌, ◌||◌, List, replicate, is_some, Some, None, Option, ◌==◌, nat_le, nat_lt, slice_index_or, slice_set}
 use Rattle.scans.specs.Scans.{largest, total, some, every}
 use Rattle.graphs.specs.Model.{TaskGraph}
 use Rattle.levels.specs.Levels.{nominal}

@@ -1,13 +1,11 @@
-use Rattle.std.proofs.Common.{◌≡◌, ℕ, ◌+◌, ◌<◌, Bool, true, false, not, length, get_or, sym, refl, ap, ◌∙◌, subst, inl, inr, arith}
-use Rattle.graphs.specs.declared.graph.Graph.{Graph}
+use Rattle.std.proofs.Common.{◌≡◌, ℕ, ◌+◌, ◌<◌, Bool, true, false, not, length, get_or, sym, refl, ap, ◌∙◌, subst, inr, arith}
 use Rattle.graphs.specs.Graphs.{model_of, tasks_of}
 use Rattle.heaps.specs.declared.entries.Ready.{Ready}
-use Rattle.heaps.specs.declared.heap.Heap.{Heap}
 use Rattle.heaps.specs.Entries.{sooner}
 use Rattle.heaps.specs.Heaps.{Pushed}
 use Rattle.planner.specs.Turns.{ready, rank}
 use Rattle.planner.specs.Queues.{Waiting, entry}
-use Rattle.planner.proofs.Queues.{woken, woken_first, woken_all, woken_skip, woken_put, woken_not, woken_now, waiting_same, waiting_room, waiting_put}
+use Rattle.planner.proofs.Queues.{woken, woken_all, woken_skip, woken_put, woken_not, woken_now, waiting_same, waiting_room, waiting_put}
 use Rattle.planner.proofs.queue.admit.Goals as goal
 use Rattle.planner.proofs.queue.admit.Goals.{then-is_ready, else-is_ready}
 

@@ -1,4 +1,4 @@
-use Rattle.std.proofs.Common.{Bool, false, not, ◌&&◌, get_or}
+use Rattle.std.proofs.Common.{false, not, get_or}
 use Rattle.graphs.specs.Graphs.{model_of}
 use Rattle.planner.specs.Turns.{rank}
 use Rattle.planner.specs.Queues.{Waiting}

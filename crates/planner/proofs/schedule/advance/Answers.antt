@@ -1,9 +1,7 @@
-use Rattle.std.proofs.Common.{◌≡◌, ℕ, Bool, true, false, cond, not, ◌&&◌, get_or, set, Some, Ok, sym, refl, ap, ◌∙◌, subst}
+use Rattle.std.proofs.Common.{◌≡◌, Bool, false, cond, not, ◌&&◌, get_or, set, Some, Ok, sym, refl, ap, ◌∙◌, subst}
 use Rattle.graphs.specs.declared.graph.Graph.{Graph}
 use Rattle.graphs.specs.Graphs.{model_of}
 use Rattle.graphs.specs.Model.{TaskGraph}
-use Rattle.heaps.specs.declared.heap.Heap.{Heap}
-use Rattle.heaps.specs.declared.entries.Ready.{Ready}
 use Rattle.links.specs.Links.{Arrives}
 use Rattle.steps.specs.Seats.{Seats, Marks}
 use Rattle.planner.specs.Turns.{ready, rank}

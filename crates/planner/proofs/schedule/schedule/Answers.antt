@@ -1,4 +1,4 @@
-use Rattle.std.proofs.Common.{◌≡◌, ℕ, ◌+◌, ◌<◌, ◌≤◌, Bool, true, false, not, ◌&&◌, length, get_or, replicate, Ok, Err, Result, sym, refl, ap, ◌∙◌, subst, arith}
+use Rattle.std.proofs.Common.{◌≡◌, ℕ, ◌+◌, true, false, not, ◌&&◌, length, get_or, replicate, Ok, Err, sym, refl, ap, ◌∙◌, subst, arith}
 use Rattle.std.proofs.lemmas.List.{get_or-replicate}
 use Rattle.std.proofs.lemmas.Bool.{and_right}
 use Rattle.graphs.specs.declared.graph.Graph.{Graph}
@@ -6,11 +6,8 @@ use Rattle.graphs.specs.Graphs.{model_of, tasks_of}
 use Rattle.graphs.specs.Model.{TaskGraph}
 use Rattle.graphs.proofs.Sound.{sound}
 use Rattle.links.specs.Links.{Arrives}
-use Rattle.plans.specs.declared.fault.PlanFault.{PlanFault}
-use Rattle.steps.specs.Seats.{Seats}
-use Rattle.planner.specs.Turns.{ready, rank, turn, after}
+use Rattle.planner.specs.Turns.{ready, rank, turn}
 use Rattle.planner.specs.Goods.{Good}
-use Rattle.planner.specs.Queues.{Waiting}
 use Rattle.planner.specs.States.{Going}
 use Rattle.planner.proofs.Afters.{nobody_good, after_more, after_denied}
 use Rattle.planner.proofs.Queues.{waiting_none, waiting_same}

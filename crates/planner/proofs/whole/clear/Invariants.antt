@@ -1,7 +1,5 @@
 use Rattle.std.proofs.Common.{◌≡◌, ℕ, ◌<◌, get_or}
 use Rattle.plans.specs.Jobs.{no_row}
-use Rattle.steps.specs.Seats.{at}
-use Rattle.planner.specs.Plans.{row_of}
 use Rattle.planner.proofs.whole.clear.Given as goal
 
 abbrev pub invariant-loop-k : goal.invariant-loop-k

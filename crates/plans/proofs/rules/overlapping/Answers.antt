@@ -1,4 +1,4 @@
-use Rattle.std.proofs.Common.{◌≡◌, ℕ, ◌<◌, List, [], length, sym, ap, subst, inl, inr, arith, rules, below_more}
+use Rattle.std.proofs.Common.{ℕ, ◌<◌, List, [], length, sym, ap, subst, inl, inr, arith, rules, below_more}
 use Rattle.std.proofs.lemmas.Bool.{cases_lt}
 use Rattle.graphs.specs.declared.types.Task.{Task}
 use Rattle.graphs.specs.Model.{model}

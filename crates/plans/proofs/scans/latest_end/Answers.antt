@@ -1,4 +1,4 @@
-use Rattle.std.proofs.Common.{◌≡◌, ℕ, ◌+◌, ◌-◌, ◌^◌, ◌≤◌, min, List, [], length, ap, subst, arith}
+use Rattle.std.proofs.Common.{◌≡◌, ℕ, ◌+◌, ◌-◌, ◌^◌, min, List, [], length, ap, subst, arith}
 use Rattle.scans.specs.Scans.{largest}
 use Rattle.scans.proofs.Scans.{largest_more, largest_under}
 use Rattle.graphs.specs.declared.types.Task.{Task}

@@ -1,8 +1,7 @@
-use Rattle.std.proofs.Common.{◌≡◌, ℕ, ◌<◌, ◌≤◌, true, List, length, get_or, Ok, Err, sym, refl, ap, ◌∙◌, subst, arith, rules}
+use Rattle.std.proofs.Common.{◌≡◌, ℕ, ◌<◌, ◌≤◌, true, Ok, Err, sym, ap, ◌∙◌, subst, arith, rules}
 use Rattle.std.proofs.lemmas.Bool.{le-leb, cond-true, lt-ltb}
 use Rattle.graphs.specs.declared.graph.Graph.{Graph}
-use Rattle.graphs.specs.Graphs.{model_of, tasks_of}
-use Rattle.graphs.specs.Model.{TaskGraph}
+use Rattle.graphs.specs.Graphs.{model_of}
 use Rattle.graphs.proofs.Sound.{sound}
 use Rattle.links.specs.Links.{Arrives}
 use Rattle.scans.specs.Scans.{largest}

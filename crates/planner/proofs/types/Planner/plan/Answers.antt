@@ -1,9 +1,8 @@
-use Rattle.std.proofs.Common.{◌≡◌, ℕ, ◌≤◌, true, false, length, sym, refl, ◌∙◌, arith}
+use Rattle.std.proofs.Common.{◌≡◌, ℕ, ◌≤◌, length, sym, refl, ◌∙◌, arith}
 use Rattle.std.proofs.lemmas.Bool.{both_ways}
 use Rattle.graphs.specs.Graphs.{model_of}
 use Rattle.graphs.proofs.Sound.{sound}
 use Rattle.links.specs.Links.{Arrives}
-use Rattle.planner.specs.Plans.{enough}
 use Rattle.planner.proofs.Laws.{plan_laws}
 use Rattle.planner.proofs.Outcomes.{outcome_rules, planning_enough, planning_short, enough_long}
 use Rattle.planner.proofs.types.Planner.plan.Goals as goal

@@ -1,6 +1,6 @@
-use Rattle.std.proofs.Common.{◌≡◌, ℕ, ◌<◌, Bool, true, false, ltb, length, sym, ap, ◌∙◌, arith, below_more}
+use Rattle.std.proofs.Common.{◌≡◌, false, ltb, length, sym, ap, arith, below_more}
 use Rattle.std.proofs.lemmas.Bool.{lt-ltb, le-ltb}
-use Rattle.graphs.specs.Graphs.{model_of, tasks_of}
+use Rattle.graphs.specs.Graphs.{model_of}
 use Rattle.scans.proofs.Scans.{lowest_is, lowest_none}
 use Rattle.planner.proofs.types.Planner.too_large.Goals as goal
 

@@ -1,4 +1,3 @@
-use Rattle.std.proofs.Common.{◌≡◌, Some, None, Option, sym}
 use Rattle.graphs.specs.Graphs.{model_of}
 use Rattle.steps.specs.Steps.{choice}
 use Rattle.steps.proofs.Steps.{step1_by, step2_by, step3_by, step4_by}

@@ -1,4 +1,4 @@
-use Rattle.std.proofs.Common.{◌≡◌, ℕ, ◌<◌, Bool, true, false, not, ◌||◌, List, length, get_or, Option, sym, ap, ◌∙◌, arith, below_more}
+use Rattle.std.proofs.Common.{◌≡◌, ℕ, Bool, true, false, not, ◌||◌, List, length, get_or, sym, ap, ◌∙◌, arith, below_more}
 use Rattle.std.proofs.lemmas.List.{take_all}
 use Rattle.std.proofs.lemmas.Bool.{and_from, or_from, or_right, not_from_true}
 use Rattle.scans.specs.Scans.{every_in}
@@ -6,10 +6,8 @@ use Rattle.scans.proofs.Scans.{every_all, every_not}
 use Rattle.scans.proofs.Lists.{every_in_more, every_in_not}
 use Rattle.edges.specs.declared.edge.Edge.{Edge}
 use Rattle.edges.specs.Edges.{no_edge, out_of}
-use Rattle.graphs.specs.declared.types.Task.{Task}
 use Rattle.graphs.specs.Graphs.{tasks_of, edges_of}
 use Rattle.graphs.proofs.Sound.{sound}
-use Rattle.plans.specs.declared.types.Row.{Row}
 use Rattle.steps.specs.Seats.{Seats, at, sits, placed}
 use Rattle.steps.proofs.Seats.{closed_is}
 use Rattle.steps.proofs.desk.Desk.closed.Goals as goal

@@ -1,4 +1,4 @@
-use Rattle.std.proofs.Common.{◌≡◌, ◌^◌, ◌≤◌, Option, sym, ap, ◌∙◌, subst, arith}
+use Rattle.std.proofs.Common.{◌^◌, ◌≤◌, Option, sym, subst, arith}
 use Rattle.graphs.specs.Graphs.{model_of}
 use Rattle.plans.specs.declared.types.Row.{Row}
 use Rattle.steps.specs.Seats.{over}

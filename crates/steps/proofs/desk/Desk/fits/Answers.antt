@@ -1,4 +1,4 @@
-use Rattle.std.proofs.Common.{◌≡◌, ℕ, ◌+◌, leb, get_or, sym, ap, ◌∙◌, arith}
+use Rattle.std.proofs.Common.{ℕ, ◌+◌, leb, ap, ◌∙◌, arith}
 use Rattle.graphs.specs.Graphs.{model_of}
 use Rattle.graphs.proofs.Sound.{sound}
 use Rattle.steps.specs.Seats.{in_use}

@@ -1,4 +1,4 @@
-use Rattle.std.proofs.Common.{◌≡◌, ◌<◌, Bool, true, false, Decides, sym, refl, ap, ◌∙◌, subst, arith}
+use Rattle.std.proofs.Common.{◌≡◌, Bool, true, false, Decides, sym, refl, ◌∙◌, subst, arith}
 use Rattle.graphs.specs.Graphs.{model_of}
 use Rattle.steps.specs.Seats.{placeable}
 use Rattle.steps.specs.Laws.{Placeable}

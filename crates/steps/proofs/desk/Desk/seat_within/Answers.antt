@@ -1,4 +1,4 @@
-use Rattle.std.proofs.Common.{◌≡◌, ◌+◌, ◌^◌, ◌<◌, ◌≤◌, sym, ap, ◌∙◌, arith}
+use Rattle.std.proofs.Common.{◌+◌, ◌^◌, ◌<◌, ◌≤◌, sym, ap, ◌∙◌, arith}
 use Rattle.graphs.specs.Graphs.{model_of}
 use Rattle.steps.specs.Seats.{start_on_worker}
 use Rattle.steps.proofs.Seats.{start_under}

@@ -1,4 +1,4 @@
-use Rattle.std.proofs.Common.{◌≡◌, ℕ, Bool, true, not, sym, ◌∙◌, arith, below_more}
+use Rattle.std.proofs.Common.{◌≡◌, true, not, sym, ◌∙◌, arith, below_more}
 use Rattle.std.proofs.lemmas.Bool.{not_from_true, not_from_false}
 use Rattle.scans.proofs.Scans.{lowest_none, lowest_is}
 use Rattle.graphs.specs.Graphs.{model_of}
