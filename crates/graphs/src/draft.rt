@@ -1,7 +1,7 @@
 // The parts of a graph while its file is read.
 ghost use Rattle.std.specs.Prelude.{◌≡◌, ◌<◌, ◌≤◌, length, IfOk, Ok, MatchResult};
 ghost use Rattle.records.specs.Heads.{Few};
-ghost use Rattle.records.specs.Records.{seen, edge as edgeItem};
+ghost use Rattle.records.specs.Records.{seen, edge as edge_item};
 ghost use Rattle.graphs.specs.declared.fault.GraphFault.TheVariants.{Memory};
 ghost use Rattle.graphs.specs.Graphs.{spelled};
 ghost use Rattle.graphs.specs.Drafts.{drafted, Tidy, Ready, Adds};
@@ -64,7 +64,7 @@ impl Draft {
     fn add_edge(&mut self, edge: Edge, at: usize) -> Result<(), GraphFault>
         requires ends { (edge.from < 512) × (edge.to < 512) }
         requires tidy { Tidy self.old }
-        ensures { Adds (added (edgeItem edge.from edge.to edge.amount) at (drafted self.old)) result self.new }
+        ensures { Adds (added (edge_item edge.from edge.to edge.amount) at (drafted self.old)) result self.new }
     {
         if self.pairs.insert(edge.from, edge.to) {
             return Err(GraphFault::Repeated { place: at });

@@ -14,7 +14,7 @@ use Rattle.plans.specs.declared.types.Limits.{Limits}
 use Rattle.plans.specs.declared.fault.PlanFault.{PlanFault}
 use Rattle.plans.specs.Jobs.{job, no_row}
 use Rattle.plans.specs.Rules.{Rules, used, reaches}
-use Rattle.plans.specs.Rules.{size_on as sizesOn}
+use Rattle.plans.specs.Rules.{size_on as sizes_on}
 use Rattle.steps.specs.Seats.{Seats, nobody, at, sits, sits_on, placed, open_test, in_use, size_on}
 use Rattle.steps.specs.Steps.{seat}
 use Rattle.planner.specs.Turns.{brings, ready, rank, next, put, place, turn, go_on, after}
@@ -115,7 +115,7 @@ module _ (limits : Limits) (policy : ℕ) (arrives : Arrives) (g : TaskGraph) wh
         placed = λ t l. good.on t (row t).worker (sat t l);
         in_time = λ t l. let q = has t l in simp q at (good.early t);
         apart = λ t tl u ul ne same. let p = has t tl in let q = has u ul in simp (p, q) at (good.apart t u (row t).worker ne (sat t tl) (subst (λ w. sits (at s u) w ≡ true) (sym same) (sat u ul)));
-        roomy = λ w wl. omega (arith, good.room w, total_same (size_on g s w) (sizesOn (job g rows limits arrives) w) g.tasks (λ t l. let q = has t l in simp q));
+        roomy = λ w wl. omega (arith, good.room w, total_same (size_on g s w) (sizes_on (job g rows limits arrives) w) g.tasks (λ t l. let q = has t l in simp q));
         fed = λ k l.
             let f = (known k l).0 in let t = (known k l).1 in
             let p = has (g.from k) f in let q = has (g.to k) t in

@@ -12,9 +12,9 @@ use Rattle.links.specs.Links.{Arrives, Lawful}
 use Rattle.plans.specs.declared.types.Limits.{Limits}
 use Rattle.steps.specs.Seats.{Seats, at, sits, host, end_of, Early, open_test, free, end_on, fits, input_at, start_on_worker}
 use Rattle.steps.specs.Steps.{near, spent, roomy, step1, step2, step3, step4, choice}
-use Rattle.steps.specs.Steps.{or_else as orNext}
+use Rattle.steps.specs.Steps.{or_else as or_next}
 
-or_split : (a b : Option ℕ) (w : ℕ) → orNext a b ≡ Some w → (a ≡ Some w) ⊎ (b ≡ Some w)
+or_split : (a b : Option ℕ) (w : ℕ) → or_next a b ≡ Some w → (a ≡ Some w) ⊎ (b ≡ Some w)
 or_split None b w e = inr e
 or_split (Some x) b w e = inl e
 

@@ -4,7 +4,7 @@ use Rattle.std.proofs.lemmas.Bool.{and_parts, leb-true, ltb-false}
 use Rattle.scans.specs.Scans.{largest}
 use Rattle.scans.proofs.Scans.{lowest_all}
 use Rattle.graphs.specs.Model.{TaskGraph, Sound}
-use Rattle.levels.specs.Levels.{level_at as levelOfIndex}
+use Rattle.levels.specs.Levels.{level_at as level_of_index}
 use Rattle.links.specs.Links.{Arrives}
 use Rattle.plans.specs.declared.types.Row.{Row}
 use Rattle.plans.specs.declared.types.Limits.{Limits}
@@ -42,7 +42,7 @@ module _ (limits : Limits) (policy : ℕ) (arrives : Arrives) (g : TaskGraph) wh
   }
 
   pub made_outcome : (s : Seats) (n : ℕ) (rows : List Row) (levels : List ℕ) → planned limits policy arrives g ≡ Ok s → n ≡ largest (end_of g s) g.tasks
-      → ((k : ℕ) → k < length rows → get_or rows k no_row ≡ row_of (at s k)) → ((k : ℕ) → get_or levels k 0 ≡ levelOfIndex arrives g k) → Outcome limits policy arrives g (Ok n) rows levels
+      → ((k : ℕ) → k < length rows → get_or rows k no_row ≡ row_of (at s k)) → ((k : ℕ) → get_or levels k 0 ≡ level_of_index arrives g k) → Outcome limits policy arrives g (Ok n) rows levels
   made_outcome s n rows levels p e r l = record {
     answered = ap Ok e ∙ sym (ap (answer g) p);
     rowed = λ k h. r k h ∙ sym (ap (λ (o : Result Seats PlanFault). row_at o k) p);

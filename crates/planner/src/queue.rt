@@ -1,7 +1,7 @@
 // The ready tasks wait in a heap.
 ghost use Rattle.std.specs.Prelude.{◌≡◌, ℕ, ◌^◌, ◌<◌, ◌≤◌, false, not, ◌&&◌, length, slice_index_or};
 ghost use Rattle.graphs.specs.Graphs.{model_of};
-ghost use Rattle.planner.specs.Turns.{ready as isReady, rank as rank_of};
+ghost use Rattle.planner.specs.Turns.{ready as ready_test, rank as rank_of};
 ghost use Rattle.planner.specs.Queues.{Levelled, Waiting};
 
 use crate::types::Planner;
@@ -11,7 +11,7 @@ use steps::Desk;
 
 // Whether t is not placed, and all its inputs are.
 fn is_ready(desk: &Desk, t: usize) -> bool
-    ensures { result ≡ isReady (model_of desk.now.graph.now) desk.now.seats t }
+    ensures { result ≡ ready_test (model_of desk.now.graph.now) desk.now.seats t }
 {
     if desk.is_placed(t) {
         return false;
@@ -47,8 +47,8 @@ pub(crate) fn admit<L: Link>(
     queue: &mut Heap<Ready>,
 )
     requires levels { Levelled (L.arrives planner.now.link.now) (model_of desk.now.graph.now) levels.now }
-    requires waiting { Waiting (λ v. isReady (model_of desk.now.graph.now) desk.now.seats v && not (slice_index_or marks.now v false)) (rank_of planner.now.policy (L.arrives planner.now.link.now) (model_of desk.now.graph.now) desk.now.seats) (model_of desk.now.graph.now).tasks queue.old }
-    ensures { Waiting (isReady (model_of desk.now.graph.now) desk.now.seats) (rank_of planner.now.policy (L.arrives planner.now.link.now) (model_of desk.now.graph.now) desk.now.seats) (model_of desk.now.graph.now).tasks queue.new }
+    requires waiting { Waiting (λ v. ready_test (model_of desk.now.graph.now) desk.now.seats v && not (slice_index_or marks.now v false)) (rank_of planner.now.policy (L.arrives planner.now.link.now) (model_of desk.now.graph.now) desk.now.seats) (model_of desk.now.graph.now).tasks queue.old }
+    ensures { Waiting (ready_test (model_of desk.now.graph.now) desk.now.seats) (rank_of planner.now.policy (L.arrives planner.now.link.now) (model_of desk.now.graph.now) desk.now.seats) (model_of desk.now.graph.now).tasks queue.new }
 {
     let tasks = desk.graph().tasks().len();
     for u in 0..tasks {

@@ -2,9 +2,9 @@
 ghost use Rattle.std.specs.Prelude.{◌≡◌, ℕ, ◌^◌, ◌<◌, ◌≤◌, [], length, Ok, Err, MatchResult};
 ghost use Rattle.graphs.specs.Graphs.{model_of};
 ghost use Rattle.heaps.specs.Entries.{sooner};
-ghost use Rattle.heaps.specs.Heaps.{room, Kept, queue as queueOf};
+ghost use Rattle.heaps.specs.Heaps.{room, Kept, queue as queue_of};
 ghost use Rattle.steps.specs.Seats.{nobody};
-ghost use Rattle.planner.specs.Turns.{ready as isReady, rank as rank_of, turn as turn_of, after as afterTurns};
+ghost use Rattle.planner.specs.Turns.{ready as ready_test, rank as rank_of, turn as turn_of, after as after_turns};
 ghost use Rattle.planner.specs.Queues.{Levelled, Waiting};
 ghost use Rattle.planner.specs.States.{Going};
 
@@ -56,11 +56,11 @@ pub(crate) fn schedule<L: Link>(
     requires limits { planner.now.limits.workers ≤ 16 }
     requires small { (t : ℕ) → t < (model_of desk.old.graph.now).tasks → (model_of desk.old.graph.now).size t ≤ planner.now.limits.memory }
     requires fresh { desk.old.seats ≡ nobody }
-    requires queue { Kept sooner queue.old × (queueOf sooner queue.old ≡ []) × (512 ≤ room queue.old) }
+    requires queue { Kept sooner queue.old × (queue_of sooner queue.old ≡ []) × (512 ≤ room queue.old) }
     ensures graph { desk.new.graph.now ≡ desk.old.graph.now }
     ensures after { MatchResult result
-        (λ _. afterTurns planner.now.limits planner.now.policy (L.arrives planner.now.link.now) (model_of desk.old.graph.now) (model_of desk.old.graph.now).tasks ≡ Ok desk.new.seats)
-        (λ e. afterTurns planner.now.limits planner.now.policy (L.arrives planner.now.link.now) (model_of desk.old.graph.now) (model_of desk.old.graph.now).tasks ≡ Err e) }
+        (λ _. after_turns planner.now.limits planner.now.policy (L.arrives planner.now.link.now) (model_of desk.old.graph.now) (model_of desk.old.graph.now).tasks ≡ Ok desk.new.seats)
+        (λ e. after_turns planner.now.limits planner.now.policy (L.arrives planner.now.link.now) (model_of desk.old.graph.now) (model_of desk.old.graph.now).tasks ≡ Err e) }
 {
     let everyone = [true; 512];
     admit(planner, desk, levels, &everyone, queue);

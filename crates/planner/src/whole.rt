@@ -6,7 +6,7 @@ ghost use Rattle.plans.specs.declared.fault.PlanFault.TheVariants.{ShortTable};
 ghost use Rattle.plans.specs.Jobs.{job, no_row};
 ghost use Rattle.plans.specs.Rules.{Rules};
 ghost use Rattle.steps.specs.Seats.{at, end_of};
-ghost use Rattle.planner.specs.Plans.{row_of, enough as enoughRows, bad_parameter, too_large_task, planning, Outcome};
+ghost use Rattle.planner.specs.Plans.{row_of, enough as enough_rows, bad_parameter, too_large_task, planning, Outcome};
 ghost use Rattle.planner.specs.Laws.{PlanLaws};
 
 use crate::schedule::schedule;
@@ -66,7 +66,7 @@ fn latest(desk: &Desk) -> u64
 }
 
 fn are_enough(rows: usize, levels: usize, queue: usize) -> bool
-    ensures { result ≡ enoughRows rows levels queue }
+    ensures { result ≡ enough_rows rows levels queue }
 {
     rows >= ROWS && levels >= ROWS && queue >= ROWS
 }
@@ -160,9 +160,9 @@ impl<'a, L: Link> Planner<'a, L> {
         levels: &mut [u64],
         queue: &mut [Ready],
     ) -> Result<u64, PlanFault>
-        ensures is { result ≡ planning (enoughRows (length rows.old) (length levels.old) (length queue.old)) self.now.limits self.now.policy (L.arrives self.now.link.now) (model_of graph.now) }
-        ensures outcome { enoughRows (length rows.old) (length levels.old) (length queue.old) ≡ true → Outcome self.now.limits self.now.policy (L.arrives self.now.link.now) (model_of graph.now) result rows.new levels.new }
-        ensures short { enoughRows (length rows.old) (length levels.old) (length queue.old) ≡ false → (rows.new ≡ rows.old) × (levels.new ≡ levels.old) × (queue.new ≡ queue.old) }
+        ensures is { result ≡ planning (enough_rows (length rows.old) (length levels.old) (length queue.old)) self.now.limits self.now.policy (L.arrives self.now.link.now) (model_of graph.now) }
+        ensures outcome { enough_rows (length rows.old) (length levels.old) (length queue.old) ≡ true → Outcome self.now.limits self.now.policy (L.arrives self.now.link.now) (model_of graph.now) result rows.new levels.new }
+        ensures short { enough_rows (length rows.old) (length levels.old) (length queue.old) ≡ false → (rows.new ≡ rows.old) × (levels.new ≡ levels.old) × (queue.new ≡ queue.old) }
         ensures rules { (n : ℕ) → result ≡ Ok n → Rules (job (model_of graph.now) rows.new self.now.limits (L.arrives self.now.link.now)) }
         ensures laws { PlanLaws }
     {

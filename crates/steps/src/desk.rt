@@ -1,6 +1,6 @@
 ghost use Rattle.std.specs.Prelude.{◌≡◌, ℕ, ◌^◌, ◌<◌, ◌≤◌, false, length, slice_index, slice_index_or};
 ghost use Rattle.graphs.specs.Graphs.{model_of};
-ghost use Rattle.steps.specs.Seats.{end_of, open_test as opened, free as freeTick, in_use};
+ghost use Rattle.steps.specs.Seats.{end_of, open_test as opened, free as free_tick, in_use};
 
 use graphs::Graph;
 use plans::Row;
@@ -22,6 +22,6 @@ pub struct Desk<'a> {
     ghost wide: { (length «open» ≡ 16) × (length free ≡ 16) × (length used ≡ 16) },
     ghost early: { (t : ℕ) → end_of (model_of graph.now) seats t ≤ 2 ^ 40 },
     ghost opens: { (w : ℕ) → w < 16 → slice_index_or «open» w false ≡ opened (model_of graph.now) seats w },
-    ghost frees: { (w : ℕ) → w < 16 → slice_index free w ≡ freeTick (model_of graph.now) seats w },
+    ghost frees: { (w : ℕ) → w < 16 → slice_index free w ≡ free_tick (model_of graph.now) seats w },
     ghost uses: { (w : ℕ) → w < 16 → slice_index used w ≡ in_use (model_of graph.now) seats w },
 }

@@ -2,7 +2,7 @@
 ghost use Rattle.std.specs.Prelude.{◌≡◌, ℕ, ◌^◌, ◌<◌, ◌≤◌, false, ◌||◌, slice_index_or};
 ghost use Rattle.graphs.specs.Graphs.{model_of};
 ghost use Rattle.steps.specs.Desks.{graph_of};
-ghost use Rattle.steps.specs.Seats.{at, sits as sitsAt, host as hostOf, placed as is_placed, end_of, fits as fitsOn, holds as holdsInput, closed as isClosed, Marks, t_level_of, reach as reachOf, start_on_worker};
+ghost use Rattle.steps.specs.Seats.{at, sits as sits_at, host as host_of, placed as is_placed, end_of, fits as fits_on, holds as holds_input, closed as is_closed, Marks, t_level_of, reach as reach_of, start_on_worker};
 
 use crate::desk::Desk;
 use graphs::{Edge, Graph};
@@ -44,7 +44,7 @@ impl<'a> Desk<'a> {
 
     // Whether t sits on w.
     pub fn sits(&self, t: usize, w: usize) -> bool
-        ensures { result ≡ sitsAt (at self.now.seats t) w }
+        ensures { result ≡ sits_at (at self.now.seats t) w }
     {
         match self.row(t) {
             Some(row) => row.worker == w,
@@ -54,7 +54,7 @@ impl<'a> Desk<'a> {
 
     // The worker of t, or 0 where it is not placed.
     fn host(&self, t: usize) -> usize
-        ensures { result ≡ hostOf (at self.now.seats t) }
+        ensures { result ≡ host_of (at self.now.seats t) }
     {
         match self.row(t) {
             Some(row) => row.worker,
@@ -88,7 +88,7 @@ impl<'a> Desk<'a> {
 
     // Whether w holds an input of t.
     pub(crate) fn holds(&self, t: usize, w: usize) -> bool
-        ensures { result ≡ holdsInput (graph_of self.now) self.now.seats t w }
+        ensures { result ≡ holds_input (graph_of self.now) self.now.seats t w }
     {
         let inputs = self.graph.inputs(t);
         for e in inputs {
@@ -102,14 +102,14 @@ impl<'a> Desk<'a> {
     // Whether t fits on w.
     pub(crate) fn fits(&self, memory: u64, t: usize, w: usize) -> bool
         requires { w < 16 }
-        ensures { result ≡ fitsOn memory (graph_of self.now) self.now.seats t w }
+        ensures { result ≡ fits_on memory (graph_of self.now) self.now.seats t w }
     {
         self.used[w] + self.graph.size(t) as u64 <= memory
     }
 
     // When what e brings is on w.
     fn reach<L: Link>(&self, link: &L, e: Edge, w: usize) -> u64
-        ensures { result ≡ reachOf (L.arrives link.now) (graph_of self.now) self.now.seats w e.from e.amount }
+        ensures { result ≡ reach_of (L.arrives link.now) (graph_of self.now) self.now.seats w e.from e.amount }
     {
         let end = self.end(e.from);
         if self.sits(e.from, w) {
@@ -142,7 +142,7 @@ impl<'a> Desk<'a> {
 
     // Whether every successor of every task on w is placed or marked.
     pub(crate) fn closed(&self, marks: &[bool; 512], w: usize) -> bool
-        ensures { (t : ℕ) → Marks (graph_of self.now) t marks.now → result ≡ isClosed (graph_of self.now) self.now.seats t w }
+        ensures { (t : ℕ) → Marks (graph_of self.now) t marks.now → result ≡ is_closed (graph_of self.now) self.now.seats t w }
     {
         let mut shut = true;
         'search: for u in 0..self.graph.tasks().len() {

@@ -1,11 +1,11 @@
 // The four steps that choose the worker of a task.
 ghost use Rattle.std.specs.Prelude.{◌≡◌, ℕ, ◌<◌, ◌≤◌, Err};
-ghost use Rattle.scans.specs.Bids.{bidder, bids, best as bestOf};
+ghost use Rattle.scans.specs.Bids.{bidder, bids, best as best_of};
 ghost use Rattle.scans.specs.declared.Aim.TheVariants.{Smallest, Largest};
 ghost use Rattle.steps.specs.Desks.{graph_of};
 ghost use Rattle.plans.specs.declared.fault.PlanFault.TheVariants.{Parameter};
-ghost use Rattle.steps.specs.Seats.{Marks, free as freeTick, start_on_worker};
-ghost use Rattle.steps.specs.Steps.{near_by, spent_by, roomy_by, unopened, choice, seat as seatOf};
+ghost use Rattle.steps.specs.Seats.{Marks, free as free_tick, start_on_worker};
+ghost use Rattle.steps.specs.Steps.{near_by, spent_by, roomy_by, unopened, choice, seat as seat_of};
 ghost use Rattle.steps.specs.Laws.{InWords};
 
 use crate::desk::Desk;
@@ -43,7 +43,7 @@ impl<'a> Desk<'a> {
     fn spent(&self, memory: u64, level: u64, marks: &[bool; 512], t: usize, w: usize) -> Option<u64>
         requires marked { Marks (graph_of self.now) t marks.now }
         requires worker { w < 16 }
-        ensures { result ≡ bids (spent_by memory level (graph_of self.now) self.now.seats t w) (freeTick (graph_of self.now) self.now.seats w) }
+        ensures { result ≡ bids (spent_by memory level (graph_of self.now) self.now.seats t w) (free_tick (graph_of self.now) self.now.seats w) }
     {
         if !self.open[w] || !self.fits(memory, t, w) {
             return None;
@@ -59,7 +59,7 @@ impl<'a> Desk<'a> {
     // What w bids in step 4: its free tick.
     fn roomy(&self, memory: u64, t: usize, w: usize) -> Option<u64>
         requires { w < 16 }
-        ensures { result ≡ bids (roomy_by memory (graph_of self.now) self.now.seats t w) (freeTick (graph_of self.now) self.now.seats w) }
+        ensures { result ≡ bids (roomy_by memory (graph_of self.now) self.now.seats t w) (free_tick (graph_of self.now) self.now.seats w) }
     {
         if !self.open[w] || !self.fits(memory, t, w) {
             None
@@ -71,7 +71,7 @@ impl<'a> Desk<'a> {
     // Step 1: the smallest start strictly below the level, among the open workers that hold an input of t and fit.
     fn first<L: Link>(&self, limits: Limits, link: &L, level: u64, t: usize) -> Option<usize>
         requires { limits.workers ≤ 16 }
-        ensures { result ≡ bestOf Smallest (near_by limits.memory level (L.arrives link.now) (graph_of self.now) self.now.seats t) (start_on_worker (L.arrives link.now) (graph_of self.now) self.now.seats t) limits.workers }
+        ensures { result ≡ best_of Smallest (near_by limits.memory level (L.arrives link.now) (graph_of self.now) self.now.seats t) (start_on_worker (L.arrives link.now) (graph_of self.now) self.now.seats t) limits.workers }
     {
         let mut best: Option<Bid> = None;
         for w in 0..limits.workers {
@@ -90,7 +90,7 @@ impl<'a> Desk<'a> {
     fn second(&self, limits: Limits, level: u64, marks: &[bool; 512], t: usize) -> Option<usize>
         requires marked { Marks (graph_of self.now) t marks.now }
         requires few { limits.workers ≤ 16 }
-        ensures { result ≡ bestOf Largest (spent_by limits.memory level (graph_of self.now) self.now.seats t) (freeTick (graph_of self.now) self.now.seats) limits.workers }
+        ensures { result ≡ best_of Largest (spent_by limits.memory level (graph_of self.now) self.now.seats t) (free_tick (graph_of self.now) self.now.seats) limits.workers }
     {
         let mut best: Option<Bid> = None;
         for w in 0..limits.workers {
@@ -120,7 +120,7 @@ impl<'a> Desk<'a> {
     // Step 4: the smallest free tick, among the open workers that fit.
     fn fourth(&self, limits: Limits, t: usize) -> Option<usize>
         requires { limits.workers ≤ 16 }
-        ensures { result ≡ bestOf Smallest (roomy_by limits.memory (graph_of self.now) self.now.seats t) (freeTick (graph_of self.now) self.now.seats) limits.workers }
+        ensures { result ≡ best_of Smallest (roomy_by limits.memory (graph_of self.now) self.now.seats t) (free_tick (graph_of self.now) self.now.seats) limits.workers }
     {
         let mut best: Option<Bid> = None;
         for w in 0..limits.workers {
@@ -151,7 +151,7 @@ impl<'a> Desk<'a> {
     // The row of t where the steps put it, or why there is none.
     fn seat_within<L: Link>(&self, limits: Limits, link: &L, t: usize) -> Result<Row, PlanFault>
         requires { limits.workers ≤ 16 }
-        ensures { result ≡ seatOf limits (L.arrives link.now) (graph_of self.now) self.now.seats t }
+        ensures { result ≡ seat_of limits (L.arrives link.now) (graph_of self.now) self.now.seats t }
     {
         match self.choose(limits, link, t) {
             None => Err(PlanFault::NoneFits { task: t }),
@@ -168,7 +168,7 @@ impl<'a> Desk<'a> {
 
     // The row of t by the four steps; there are at most 16 workers.
     pub fn seat<L: Link>(&self, limits: Limits, link: &L, t: usize) -> Result<Row, PlanFault>
-        ensures is { limits.workers ≤ 16 → result ≡ seatOf limits (L.arrives link.now) (graph_of self.now) self.now.seats t }
+        ensures is { limits.workers ≤ 16 → result ≡ seat_of limits (L.arrives link.now) (graph_of self.now) self.now.seats t }
         ensures refused { 16 < limits.workers → result ≡ Err (Parameter 1) }
         ensures words { InWords limits (L.arrives link.now) (graph_of self.now) self.now.seats t }
     {
