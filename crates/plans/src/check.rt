@@ -4,8 +4,8 @@ ghost use Rattle.plans.specs.Jobs.{job};
 ghost use Rattle.plans.specs.Checked.{checked, Told, Accepts};
 
 use crate::fault::PlanFault;
+use crate::row_scans::{above_ceiling, latest_end, unplaced};
 use crate::rules::{late_input, overfull, overlapping};
-use crate::scans::{above_ceiling, latest_end, unplaced};
 use crate::types::{Limits, Row};
 use graphs::Graph;
 use links::Link;

@@ -3,11 +3,11 @@
 
 pub mod check;
 pub mod fault;
+pub mod row_scans;
 mod rows;
 mod rules;
-pub mod scans;
 pub mod types;
 
 pub use fault::PlanFault;
-pub use scans::{above_ceiling, latest_end, unplaced};
+pub use row_scans::{above_ceiling, latest_end, unplaced};
 pub use types::{Limits, Row};

@@ -1,7 +1,7 @@
 use Rattle.graphs.specs.Graphs.{model_of}
 use Rattle.plans.specs.Jobs.{unlinked}
 use Rattle.plans.proofs.Tests.{says_in_time, found_is}
-use Rattle.plans.proofs.scans.above_ceiling.Goals as goal
+use Rattle.plans.proofs.row_scans.above_ceiling.Goals as goal
 
 pub returns : goal.returns
 returns c =

@@ -6,7 +6,7 @@ use Rattle.graphs.specs.Model.{model}
 use Rattle.graphs.specs.Graphs.{model_of}
 use Rattle.plans.specs.Jobs.{unlinked}
 use Rattle.plans.specs.Rules.{end, latest}
-use Rattle.plans.proofs.scans.latest_end.Goals as goal
+use Rattle.plans.proofs.row_scans.latest_end.Goals as goal
 
 pub loop-t-preserved : goal.loop-t-preserved
 loop-t-preserved c =
