@@ -8,7 +8,6 @@ mod order;
 mod sift;
 
 pub use entries::{Line, Ready};
-use faults::Refusal;
 pub use full::HeapFull;
 pub use heap::Heap;
 pub use order::Ordered;
