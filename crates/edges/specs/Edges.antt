@@ -1,5 +1,5 @@
 -- The edges of a task on one side: those that lead into it, or out of it, in the order of the file.
-use Rattle.std.specs.Prelude.{ℕ, ◌<◌, List, length, get_or, filter, nat_eq, slice_index_or}
+use Rattle.std.specs.Prelude.{ℕ, ◌<◌, List, length, filter, slice_index_or, ◌==◌}
 use Rattle.edges.specs.declared.edge.Edge.{Edge}
 use Rattle.edges.specs.declared.edge.Side.{Side}
 use Rattle.edges.specs.declared.edge.Side.TheVariants.{From, To}
@@ -13,7 +13,7 @@ end_on To e = e.to
 
 -- those whose key is t, in order
 abbrev pub share : {X : Type 0} → (X → ℕ) → List X → ℕ → List X
-share key xs t = filter (λ x. nat_eq (key x) t) xs
+share key xs t = filter (λ x. key x == t) xs
 
 -- the edges into a task, and out of it
 abbrev pub into : List Edge → ℕ → List Edge
@@ -24,7 +24,7 @@ out_of es t = share (end_on From) es t
 
 -- both ends of each edge are below n
 abbrev pub Within : List Edge → ℕ → Type 0
-Within es n = (k : ℕ) → k < length es → ((get_or es k no_edge).from < n) × ((get_or es k no_edge).to < n)
+Within es n = (k : ℕ) → k < length es → ((slice_index_or es k no_edge).from < n) × ((slice_index_or es k no_edge).to < n)
 
 -- each end on that side is below n
 abbrev pub Under : Side → List Edge → ℕ → Type 0

@@ -1,5 +1,5 @@
 -- The parts of a graph: which are well formed, and how they are written.
-use Rattle.std.specs.Prelude.{◌≡◌, ℕ, ◌<◌, ◌≤◌, List, [], ◌∷◌, ◌++◌, length, get_or, slice_index_or}
+use Rattle.std.specs.Prelude.{◌≡◌, ℕ, ◌<◌, ◌≤◌, List, [], ◌∷◌, ◌++◌, length, slice_index_or}
 use Rattle.std.specs.List.{flat_map}
 use Rattle.edges.specs.declared.edge.Edge.{Edge}
 use Rattle.edges.specs.Edges.{no_edge}
@@ -27,8 +27,8 @@ no_parts = parts_over [] [] []
 pub record Limited (p : Parts) : Type 0 where
   pub few : (length p.tasks ≤ 512) × (length p.edges ≤ 4096)
   pub named : length p.names ≡ length p.tasks
-  pub tasks : (t : ℕ) → t < length p.tasks → TaskFits (slice_index_or p.names t []) (get_or p.tasks t no_task).time (get_or p.tasks t no_task).size
-  pub edges : (k : ℕ) → k < length p.edges → EdgeFits (length p.tasks) (get_or p.edges k no_edge).from (get_or p.edges k no_edge).to (get_or p.edges k no_edge).amount
+  pub tasks : (t : ℕ) → t < length p.tasks → TaskFits (slice_index_or p.names t []) (slice_index_or p.tasks t no_task).time (slice_index_or p.tasks t no_task).size
+  pub edges : (k : ℕ) → k < length p.edges → EdgeFits (length p.tasks) (slice_index_or p.edges k no_edge).from (slice_index_or p.edges k no_edge).to (slice_index_or p.edges k no_edge).amount
   pub single : (j k : ℕ) → Repeats p.edges j k → ⊥
 
 -- and no task lies on a cycle of edges or after one

@@ -1,11 +1,11 @@
 -- What holds at each turn of the search for an order.
-use Rattle.std.specs.Prelude.{◌≡◌, ℕ, ◌+◌, ◌<◌, ◌≤◌, Bool, ◌&&◌, ltb, List, length, count_by, ◌==◌, nat_eq, nat_le, nat_lt, slice_index, slice_index_or}
+use Rattle.std.specs.Prelude.{◌≡◌, ℕ, ◌+◌, ◌<◌, ◌≤◌, Bool, ◌&&◌, List, length, count_by, ◌==◌, nat_le, nat_lt, slice_index, slice_index_or}
 use Rattle.edges.specs.declared.edge.Edge.{Edge}
 use Rattle.edges.specs.Edges.{no_edge}
 
 -- how many edges lead to t
 abbrev pub count_to : List Edge → ℕ → ℕ
-count_to es t = count_by (λ (e : Edge). nat_eq e.to t) es
+count_to es t = count_by (λ (e : Edge). e.to == t) es
 
 -- how many edges lead to t from a task of rank head or above
 abbrev pub count_from : ℕ → List ℕ → List Edge → ℕ → ℕ
@@ -21,7 +21,7 @@ pub record Shape (waits rank order : List ℕ) (tail : ℕ) : Type 0 where
   pub idle : (t : ℕ) → 0 < slice_index waits t → slice_index rank t ≡ length waits
   pub placed : (t : ℕ) → t < length waits → slice_index waits t ≡ 0 → (slice_index rank t < tail) × (slice_index order (slice_index rank t) ≡ t)
   pub filled : (j : ℕ) → j < tail → (slice_index order j < length waits) × (slice_index rank (slice_index order j) ≡ j)
-  pub count : tail + count_by (λ w. ltb 0 w) waits ≡ length waits
+  pub count : tail + count_by (λ w. nat_lt 0 w) waits ≡ length waits
 
 -- the first tail places, and the ranks below tail, are as they were
 pub record Kept (rank order : List ℕ) (tail : ℕ) (ranks orders : List ℕ) (last : ℕ) : Type 0 where

@@ -1,5 +1,5 @@
 -- What planning answers, and what it writes.
-use Rattle.std.specs.Prelude.{◌≡◌, ℕ, ◌<◌, Bool, cond, ◌&&◌, ltb, List, length, Some, None, Ok, Err, Option, Result, nat_le, nat_lt, slice_index, slice_index_or}
+use Rattle.std.specs.Prelude.{◌≡◌, ℕ, ◌<◌, Bool, cond, ◌&&◌, List, length, Some, None, Ok, Err, Option, Result, nat_le, nat_lt, slice_index, slice_index_or}
 use Rattle.scans.specs.Scans.{largest, lowest}
 use Rattle.graphs.specs.Model.{TaskGraph}
 use Rattle.levels.specs.Levels.{b_level_of}
@@ -23,7 +23,7 @@ bad_parameter limits policy = or_policy (bad_limit limits.workers limits.memory)
 
 -- the lowest task that alone exceeds the memory
 abbrev pub too_large_task : Limits → TaskGraph → Option ℕ
-too_large_task limits g = lowest (λ t. ltb limits.memory (g.size t)) g.tasks
+too_large_task limits g = lowest (λ t. nat_lt limits.memory (g.size t)) g.tasks
 
 -- the seats of all tasks, or the first denial
 unfoldable pub planned : Limits → ℕ → Arrives → TaskGraph → Result Seats PlanFault

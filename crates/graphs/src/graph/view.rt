@@ -1,4 +1,4 @@
-ghost use Rattle.std.specs.Prelude.{◌≡◌, ℕ, ◌^◌, ◌<◌, ◌≤◌, length, get_or, vec_items as items, slice_index_or};
+ghost use Rattle.std.specs.Prelude.{◌≡◌, ℕ, ◌^◌, ◌<◌, ◌≤◌, length, vec_items as items, slice_index_or};
 ghost use Rattle.edges.specs.Edges.{no_edge, into, out_of};
 ghost use Rattle.graphs.specs.Model.{no_task, Sound};
 ghost use Rattle.graphs.specs.Graphs.{tasks_of, names_of, edges_of, model_of};
@@ -61,7 +61,7 @@ impl Graph {
     // The edges into t, in the order of the file; none where there is no such task.
     pub fn inputs(&self, t: usize) -> &[Edge]
         ensures is { result.now ≡ into (edges_of self.now) t }
-        ensures within { (k : ℕ) → k < length result.now → ((get_or result.now k no_edge).from < length (tasks_of self.now)) × ((get_or result.now k no_edge).to ≡ t) }
+        ensures within { (k : ℕ) → k < length result.now → ((slice_index_or result.now k no_edge).from < length (tasks_of self.now)) × ((slice_index_or result.now k no_edge).to ≡ t) }
     {
         self.table.inputs(t)
     }
@@ -69,7 +69,7 @@ impl Graph {
     // The edges out of t, in the order of the file; none where there is no such task.
     pub fn outputs(&self, t: usize) -> &[Edge]
         ensures is { result.now ≡ out_of (edges_of self.now) t }
-        ensures within { (k : ℕ) → k < length result.now → ((get_or result.now k no_edge).from ≡ t) × ((get_or result.now k no_edge).to < length (tasks_of self.now)) }
+        ensures within { (k : ℕ) → k < length result.now → ((slice_index_or result.now k no_edge).from ≡ t) × ((slice_index_or result.now k no_edge).to < length (tasks_of self.now)) }
     {
         self.table.outputs(t)
     }
