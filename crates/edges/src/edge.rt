@@ -2,14 +2,15 @@ ghost use Rattle.std.specs.Prelude.{◌≡◌};
 ghost use Rattle.edges.specs.Edges.{end_on};
 
 // An amount of data that goes from a task to a successor.
-#[derive(Clone, Copy)]
+#[derive(Clone, Copy, PartialEq, Eq, Debug)]
 pub struct Edge {
     pub from: usize,
     pub to: usize,
     pub amount: u32,
 }
 
-#[derive(Clone, Copy)]
+// Which end. An enum and no closure, since the definitions name the two.
+#[derive(Clone, Copy, PartialEq, Eq, Debug)]
 pub enum Side {
     From,
     To,

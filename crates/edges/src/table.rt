@@ -1,6 +1,7 @@
-ghost use Rattle.std.specs.Prelude.{◌≡◌, ℕ, ◌+◌, ◌<◌, ◌≤◌, length, take, drop, vec_items as items, slice_index, slice_index_or};
-ghost use Rattle.edges.specs.Edges.{no_edge, into, out_of, end_on};
-ghost use Rattle.edges.specs.Groups.{begin};
+ghost use Rattle.std.specs.Prelude.{vec_items as items};
+ghost use Rattle.std.proofs.Props.{props};
+ghost use Rattle.edges.specs.Edges.{Within};
+ghost use Rattle.edges.specs.Sorts.{SortedBy};
 ghost use Rattle.edges.specs.declared.edge.Side.TheVariants.{From, To};
 
 use crate::edge::Edge;
@@ -16,11 +17,7 @@ pub struct EdgeTable {
     edges: Vec<Edge>,
     target: Sorted,
     source: Sorted,
-    ghost within: { (k : ℕ) → k < length (items edges) → ((slice_index_or (items edges) k no_edge).from < tasks) × ((slice_index_or (items edges) k no_edge).to < tasks) },
-    ghost rooms: { (length (items edges) ≤ length (items target.edges)) × (length (items edges) ≤ length (items source.edges)) },
-    ghost sizes: { (length (items target.ends) ≡ tasks) × (length (items source.ends) ≡ tasks) },
-    ghost intos: { (t : ℕ) → t < tasks → slice_index (items target.ends) t ≡ begin (end_on To) (items edges) t + length (into (items edges) t) },
-    ghost outs: { (t : ℕ) → t < tasks → slice_index (items source.ends) t ≡ begin (end_on From) (items edges) t + length (out_of (items edges) t) },
-    ghost targets: { (t : ℕ) → t < tasks → ∥ take (length (into (items edges) t)) (drop (begin (end_on To) (items edges) t) (items target.edges)) ≡ into (items edges) t ∥₁ },
-    ghost sources: { (t : ℕ) → t < tasks → ∥ take (length (out_of (items edges) t)) (drop (begin (end_on From) (items edges) t) (items source.edges)) ≡ out_of (items edges) t ∥₁ },
+    ghost within: { Within (items edges) tasks },
+    ghost target_sorted: { SortedBy To (items edges) tasks target } by { Prim.hlevel props },
+    ghost source_sorted: { SortedBy From (items edges) tasks source } by { Prim.hlevel props },
 }

@@ -140,12 +140,12 @@ placed_cond : (len start at : ℕ) (t : Bool) (f g : Front) → placed len start
 placed_cond len start at true f g = refl
 placed_cond len start at false f g = refl
 
-pub opened : (file : List ℕ) (start at left : ℕ) (first : Bool) → 0 < left → groups_at file start at left first ≡ cond (leb (length file) at) (Err (Truncated (length file)))
+unfolded : (file : List ℕ) (start at left : ℕ) (first : Bool) → 0 < left → groups_at file start at left first ≡ cond (leb (length file) at) (Err (Truncated (length file)))
     (cond (ltb (get_or file at 0) 128)
     (cond (eqb (get_or file at 0) 0 && not first) (Err (Malformed start)) (Ok (get_or file at 0, at + 1)))
     (onto (get_or file at 0 - 128) (groups_at file start (at + 1) (left - 1) false)))
-opened file start at zero first h = absurd (omega arith)
-opened file start at (suc k) first h =
+unfolded file start at zero first h = absurd (omega arith)
+unfolded file start at (suc k) first h =
     let len = length file in
     let b = get_or file at 0 in
     let p : Front → Result (ℕ × ℕ) NumberFault = placed len start at in
@@ -159,3 +159,13 @@ opened file start at (suc k) first h =
     ∙ rw e (sym (cond-false _ _ _ (lt-leb len at l))))
     (λ l. ap (λ x. p (decode (suc k) first x)) (drop_all at file l) ∙ sym (cond-true _ _ _ (le-leb len at l)))
     (cases_lt at len)
+
+-- the same where the group is the first one exactly at the number's start
+pub opened : (file : List ℕ) (start at left : ℕ) → start ≤ at → 0 < left → groups_at file start at left (eqb at start) ≡ cond (leb (length file) at) (Err (Truncated (length file)))
+    (cond (ltb (get_or file at 0) 128)
+    (cond (eqb (get_or file at 0) 0 && ltb start at) (Err (Malformed start)) (Ok (get_or file at 0, at + 1)))
+    (onto (get_or file at 0 - 128) (groups_at file start (at + 1) (left - 1) (eqb (at + 1) start))))
+opened file start at left s h =
+    let later : not (eqb at start) ≡ ltb start at = grind (arith, nat_tests) in
+    let next : eqb (at + 1) start ≡ false = ne_eqb (at + 1) start (λ e. omega arith) in
+    rw (← later, next) (unfolded file start at left (eqb at start) h)

@@ -11,9 +11,6 @@ pub number_at_lem : (file : List ℕ) (at v : ℕ) (rest : List ℕ) → v < 2 ^
 unfolding number_at coded
 number_at_lem file at v rest h e = rw e (ap (placed (length file) at at) (reads 6 10 true v rest (omega arith) h (λ _. refl) (omega arith)))
 
-pub number_between : (before after : List ℕ) (v : ℕ) → v < 2 ^ 42 → number_at (before ++ (coded v ++ after)) (length before) ≡ Ok (v, length before + length (coded v))
-number_between before after v h = number_at_lem (before ++ (coded v ++ after)) (length before) v after h (drop_at before (coded v ++ after) (length before) refl)
-
 -- what follows the bytes that stand at an offset
 pub past : (file : List ℕ) (at : ℕ) (bytes rest : List ℕ) → drop at file ≡ bytes ++ rest → drop (at + length bytes) file ≡ rest
 past file at bytes rest e = sym (drop-drop (length bytes) at file) ∙ ap (drop (length bytes)) e ∙ drop_at bytes rest (length bytes) refl

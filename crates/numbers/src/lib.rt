@@ -3,4 +3,6 @@
 
 pub mod fault;
 pub mod number;
-pub mod text;
+pub mod writer;
+
+pub use writer::Writer;

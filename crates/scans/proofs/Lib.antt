@@ -1,3 +1,4 @@
 pub mod Scans
 pub mod Lists
 pub mod Bids
+pub mod Chains

@@ -49,6 +49,9 @@ module _ {X : Type 0} where
   largest_front f xs d zero h = refl
   largest_front f xs d (suc n) h = let e = rw add-one at (largest_in_more f xs n d (omega arith)) in omega (arith, largest_front f xs d n (omega arith), e)
 
+  pub largest_whole : (f : X → ℕ) (xs : List X) (d : X) → largest (λ k. f (get_or xs k d)) (length xs) ≡ largest_in f xs
+  largest_whole f xs d = largest_front f xs d (length xs) (omega arith) ∙ ap (largest_in f) (take_all (length xs) xs (omega arith))
+
   some_front : (p : X → Bool) (xs : List X) (d : X) (n : ℕ) → n ≤ length xs → some (λ k. p (get_or xs k d)) n ≡ some_in p (take n xs)
   some_front p xs d zero h = refl
   some_front p xs d (suc n) h = let e = rw add-one at (some_in_more p xs n d (omega arith)) in ap (λ (b : Bool). b || p (get_or xs n d)) (some_front p xs d n (omega arith)) ∙ sym e
@@ -86,3 +89,12 @@ module _ {X : Type 0} where
 
   pub every_in_not : (p : X → Bool) (xs : List X) (i : ℕ) (d : X) → i < length xs → p (get_or xs i d) ≡ false → every_in p xs ≡ false
   every_in_not p xs i d l e = ap (every_in p) (sym (take_all (length xs) xs (omega arith))) ∙ sym (every_front p xs d (length xs) (omega arith)) ∙ every_not (λ k. p (get_or xs k d)) (length xs) i l e
+
+  -- all elements pass, or none does
+  pub every_in_all : (p : X → Bool) (xs : List X) → ((k : ℕ) (d : X) → k < length xs → p (get_or xs k d) ≡ true) → every_in p xs ≡ true
+  every_in_all p [] h = refl
+  every_in_all p (x ∷ l) h = simp (h 0 x (omega arith), every_in_all p l (λ k d m. h (suc k) d (omega arith)))
+
+  pub some_in_none : (p : X → Bool) (xs : List X) → ((k : ℕ) (d : X) → k < length xs → p (get_or xs k d) ≡ false) → some_in p xs ≡ false
+  some_in_none p [] h = refl
+  some_in_none p (x ∷ l) h = simp (h 0 x (omega arith), some_in_none p l (λ k d m. h (suc k) d (omega arith)))

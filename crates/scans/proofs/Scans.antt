@@ -1,5 +1,5 @@
 -- What the scans find.
-use Rattle.std.proofs.Common.{◌≡◌, ℕ, zero, suc, ◌+◌, ◌<◌, ◌≤◌, max, Bool, true, false, ◌||◌, ◌⊎◌, Some, None, Option, sym, refl, ap, ◌∙◌, subst, inl, inr, add-one, arith}
+use Rattle.std.proofs.Common.{◌≡◌, ℕ, zero, suc, ◌+◌, ◌<◌, ◌≤◌, max, min, Bool, true, false, ◌||◌, ◌⊎◌, Some, None, Option, sym, refl, ap, ◌∙◌, subst, inl, inr, add-one, arith}
 use Rattle.std.proofs.lemmas.Bool.{cases_lt, cases_eq, or_cases, or_parts, and_parts, and_cases, and_right, or_right}
 use Rattle.scans.specs.Scans.{largest, total, some, every, or_else, lowest}
 
@@ -25,6 +25,10 @@ largest_more f n = rw add-one
 pub largest_same : (f h : ℕ → ℕ) (n : ℕ) → ((k : ℕ) → k < n → f k ≡ h k) → largest f n ≡ largest h n
 largest_same f h zero e = refl
 largest_same f h (suc n) e = let a = largest_same f h n (λ k l. e k (omega arith)) in let b = e n (omega arith) in simp (a, b)
+
+pub largest_cut : (f : ℕ → ℕ) (m n : ℕ) → largest (λ k. min (f k) m) n ≡ min (largest f n) m
+largest_cut f m zero = omega arith
+largest_cut f m (suc n) = omega (arith, largest_cut f m n)
 
 -- one place more that counts
 pub largest_put : (f h : ℕ → ℕ) (n t : ℕ) → t < n → f t ≡ 0 → ((u : ℕ) → (u ≡ t → ⊥) → h u ≡ f u) → largest h n ≡ max (largest f n) (h t)

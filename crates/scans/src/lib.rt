@@ -4,15 +4,15 @@
 ghost use Rattle.std.specs.Prelude.{◌≡◌, ℕ};
 ghost use Rattle.scans.specs.Bids.{beats, outbids, BestIsChosen};
 
-// Which key wins.
-#[derive(Clone, Copy)]
+// Which key wins. An enum and no closure, since the definitions name the two.
+#[derive(Clone, Copy, PartialEq, Eq, Debug)]
 pub enum Aim {
     Smallest,
     Largest,
 }
 
 // A number that bids with its key.
-#[derive(Clone, Copy)]
+#[derive(Clone, Copy, PartialEq, Eq, Debug)]
 pub struct Bid {
     pub by: usize,
     pub key: u64,
@@ -27,19 +27,16 @@ fn wins(aim: Aim, key: u64, leader: u64) -> bool
     }
 }
 
+// The answer; the further clauses of the public call follow from it.
 fn better(aim: Aim, best: Option<Bid>, by: usize, bid: Option<u64>) -> Option<Bid>
     ensures { result ≡ outbids aim best by bid }
 {
-    match bid {
-        None => best,
-        Some(key) => match best {
-            None => Some(Bid { by, key }),
-            Some(leader) => if wins(aim, key, leader.key) {
-                Some(Bid { by, key })
-            } else {
-                Some(leader)
-            },
-        },
+    let Some(key) = bid else {
+        return best;
+    };
+    match best {
+        Some(leader) if !wins(aim, key, leader.key) => best,
+        _ => Some(Bid { by, key }),
     }
 }
 

@@ -1,17 +1,15 @@
 ghost use Rattle.std.specs.Prelude.{◌≡◌, ℕ, ◌<◌, [], length, vec_items as items, Decides};
 ghost use Rattle.edges.specs.Edges.{Within};
-ghost use Rattle.edges.specs.Sorts.{SortedBy};
 ghost use Rattle.edges.specs.Tables.{Tabled};
-ghost use Rattle.edges.specs.declared.edge.Side.TheVariants.{From, To};
 ghost use Rattle.edges.specs.declared.table.build.TableFault.TheVariants.{Memory};
 
 use crate::edge::{Edge, Side};
-use crate::sort::{Sorted, sort_by_end};
+use crate::sort::Sorted;
 use crate::table::EdgeTable;
 use std::alloc::{AllocError, Global};
 
 // Why no table was made: memory is short, or an edge has an end that is no task.
-#[derive(Clone, Copy)]
+#[derive(Clone, Copy, PartialEq, Eq, Debug)]
 pub enum TableFault {
     Memory,
     NoTask,
@@ -28,27 +26,7 @@ impl From<AllocError> for TableFault {
 fn are_within(edges: &[Edge], tasks: usize) -> bool
     ensures { Decides result (Within edges.now tasks) }
 {
-    for e in edges {
-        if e.from >= tasks || e.to >= tasks {
-            return false;
-        }
-    }
-    true
-}
-
-// The table of these edges and their sorted copies.
-fn assemble(tasks: usize, edges: Vec<Edge>, target: Sorted, source: Sorted) -> EdgeTable
-    requires within { Within (items edges) tasks }
-    requires target { SortedBy To (items edges) tasks target }
-    requires source { SortedBy From (items edges) tasks source }
-    ensures { (result.tasks ≡ tasks) × (items result.edges ≡ items edges) }
-{
-    EdgeTable {
-        tasks,
-        edges,
-        target,
-        source,
-    }
+    edges.iter().all(|e| e.from < tasks && e.to < tasks)
 }
 
 impl EdgeTable {
@@ -56,19 +34,11 @@ impl EdgeTable {
     pub fn empty(heap: Global) -> EdgeTable
         ensures { (result.tasks ≡ 0) × (items result.edges ≡ []) }
     {
-        let target = Sorted {
-            edges: Vec::new(heap),
-            ends: Vec::new(heap),
-        };
-        let source = Sorted {
-            edges: Vec::new(heap),
-            ends: Vec::new(heap),
-        };
         EdgeTable {
             tasks: 0,
             edges: Vec::new(heap),
-            target,
-            source,
+            target: Sorted::empty(heap, Side::To),
+            source: Sorted::empty(heap, Side::From),
         }
     }
 
@@ -79,8 +49,13 @@ impl EdgeTable {
         if !are_within(&edges, tasks) {
             return Err(TableFault::NoTask);
         }
-        let target = sort_by_end(heap, &edges, Side::To, tasks)?;
-        let source = sort_by_end(heap, &edges, Side::From, tasks)?;
-        Ok(assemble(tasks, edges, target, source))
+        let target = Sorted::new(heap, &edges, Side::To, tasks)?;
+        let source = Sorted::new(heap, &edges, Side::From, tasks)?;
+        Ok(EdgeTable {
+            tasks,
+            edges,
+            target,
+            source,
+        })
     }
 }

@@ -1,8 +1,7 @@
 ghost use Rattle.std.specs.Prelude.{◌≡◌, ℕ, ◌<◌, length, vec_items as items, slice_index_or};
 ghost use Rattle.edges.specs.Edges.{no_edge, into, out_of, Within};
 
-use crate::edge::{Edge, Side};
-use crate::sort::share_of;
+use crate::edge::Edge;
 use crate::table::EdgeTable;
 
 impl EdgeTable {
@@ -26,16 +25,7 @@ impl EdgeTable {
         ensures is { result.now ≡ into (items self.now.edges) t }
         ensures within { (k : ℕ) → k < length result.now → ((slice_index_or result.now k no_edge).from < self.now.tasks) × ((slice_index_or result.now k no_edge).to ≡ t) }
     {
-        if t >= self.tasks {
-            return &self.target.edges[0..0];
-        }
-        share_of(
-            &self.edges,
-            Side::To,
-            &self.target.ends,
-            &self.target.edges,
-            t,
-        )
+        self.target.share(t)
     }
 
     // The edges out of t, in the order of the file; none where there is no such task.
@@ -43,15 +33,6 @@ impl EdgeTable {
         ensures is { result.now ≡ out_of (items self.now.edges) t }
         ensures within { (k : ℕ) → k < length result.now → ((slice_index_or result.now k no_edge).from ≡ t) × ((slice_index_or result.now k no_edge).to < self.now.tasks) }
     {
-        if t >= self.tasks {
-            return &self.source.edges[0..0];
-        }
-        share_of(
-            &self.edges,
-            Side::From,
-            &self.source.ends,
-            &self.source.edges,
-            t,
-        )
+        self.source.share(t)
     }
 }

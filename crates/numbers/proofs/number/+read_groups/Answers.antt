@@ -1,6 +1,7 @@
-use Rattle.std.proofs.Common.{◌≡◌, ℕ, zero, suc, ◌-◌, ◌*◌, ◌^◌, ◌<◌, ◌≤◌, pow-suc, arith}
+use Rattle.std.proofs.Common.{◌≡◌, ℕ, zero, suc, ◌-◌, ◌*◌, ◌^◌, ◌<◌, ◌≤◌, length, pow-suc, arith}
 use native.Mathlib.Nat.{pow-le-pow_right}
 use Rattle.std.proofs.lemmas.Bool.Decides.{nat_tests}
+use Rattle.std.proofs.lemmas.List.{get_or_read}
 use Rattle.std.proofs.lemmas.Result.{err_from_is_err_and}
 use Rattle.numbers.proofs.Groups.{opened}
 use Rattle.numbers.proofs.number.+read_groups.Goals as goal
@@ -15,25 +16,29 @@ bound left h = pow-le-pow_right {n = 128} (omega arith) {i = left} {j = 6} h
 positive : (left : ℕ) → 1 ≤ 128 ^ left
 positive left = pow-le-pow_right {n = 128} (omega arith) {i = 0} {j = left} (omega arith)
 
-pub returns-then-at-file : goal.returns-then-at-file
-returns-then-at-file t c = record { is = let o = opened c.args.file.now c.args.start c.args.at c.args.left c.args.first (omega arith) in grind (arith, nat_tests, o); small = tt; within = tt }
+pub returns-in_default-clause-is : goal.returns-in_default-clause-is
+returns-in_default-clause-is t c =
+    let o = opened c.args.file.now c.args.start c.args.at c.args.left c.requires.on (omega arith) in
+    grind (arith, nat_tests, o, c.in_default.ensures.lookup)
 
-pub returns-then-not-first : goal.returns-then-not-first
-returns-then-not-first t c = record { is = let o = opened c.args.file.now c.args.start c.args.at c.args.left c.args.first (omega arith) in grind (arith, nat_tests, o); small = tt; within = tt }
+pub returns-then-at-start-clause-is : goal.returns-then-at-start-clause-is
+returns-then-at-start-clause-is t c =
+    let o = opened c.args.file.now c.args.start c.args.at c.args.left c.requires.on (omega arith) in
+    grind (arith, nat_tests, o, c.in-Some.ensures.lookup)
 
-pub returns-then-byte-lt128 : goal.returns-then-byte-lt128
-returns-then-byte-lt128 t c =
-    record {
-      is = let o = opened c.args.file.now c.args.start c.args.at c.args.left c.args.first (omega arith) in grind (arith, nat_tests, o);
-      small = omega (arith, power c.args.left (omega arith), positive (c.args.left - 1));
-      within = (omega arith, omega arith);
-    }
+pub returns-then-byte-lt128-clause-is : goal.returns-then-byte-lt128-clause-is
+returns-then-byte-lt128-clause-is t c =
+    let o = opened c.args.file.now c.args.start c.args.at c.args.left c.requires.on (omega arith) in
+    grind (arith, nat_tests, o, c.in-Some.ensures.lookup)
 
-pub returns-in_err-rest : goal.returns-in_err-rest
-returns-in_err-rest t c =
+pub returns-then-byte-lt128-clause-small : goal.returns-then-byte-lt128-clause-small
+returns-then-byte-lt128-clause-small t c = omega (arith, power c.args.left (omega arith), positive (c.args.left - 1))
+
+pub returns-in_err-rest-clause-is : goal.returns-in_err-rest-clause-is
+returns-in_err-rest-clause-is t c =
     let p = err_from_is_err_and c.from_residual.result c.from_residual.ensures.1 in
-    let o = opened c.args.file.now c.args.start c.args.at c.args.left c.args.first (omega arith) in
-    record { is = rw (p.1, p.2) (grind (arith, nat_tests, o, c.in_err-rest.ensures.is)); small = rw p.1 tt; within = rw p.1 tt }
+    let o = opened c.args.file.now c.args.start c.args.at c.args.left c.requires.on (omega arith) in
+    rw (p.1, p.2) (grind (arith, nat_tests, o, c.in-Some.ensures.lookup, c.in_err-rest.ensures.is))
 
 pub overflow_mul-result : goal.overflow_mul-result
 overflow_mul-result t c = omega (arith, c.in_ok-rest.ensures.small, bound (c.args.left - 1) (omega arith))
@@ -41,10 +46,13 @@ overflow_mul-result t c = omega (arith, c.in_ok-rest.ensures.small, bound (c.arg
 pub overflow_add-result-2 : goal.overflow_add-result-2
 overflow_add-result-2 t c = omega (arith, c.in_ok-rest.ensures.small, bound (c.args.left - 1) (omega arith))
 
-pub returns : goal.returns
-returns t c =
-    record {
-      is = let o = opened c.args.file.now c.args.start c.args.at c.args.left c.args.first (omega arith) in grind (arith, nat_tests, o, c.in_ok-rest.ensures.is);
-      small = omega (arith, power c.args.left (omega arith), c.in_ok-rest.ensures.small, c.type_inv.file c.args.at);
-      within = (omega (arith, c.in_ok-rest.ensures.within), omega (arith, c.in_ok-rest.ensures.within));
-    }
+pub returns-clause-is : goal.returns-clause-is
+returns-clause-is t c =
+    let o = opened c.args.file.now c.args.start c.args.at c.args.left c.requires.on (omega arith) in
+    grind (arith, nat_tests, o, c.in-Some.ensures.lookup, c.in_ok-rest.ensures.is)
+
+pub returns-clause-small : goal.returns-clause-small
+returns-clause-small t c =
+    let at : c.args.at < length c.args.file.now = grind (arith, nat_tests, c.in-Some.ensures.lookup) in
+    let byte = get_or_read c.args.file.now c.args.at c.in-Some.field-0.now at c.in-Some.ensures.lookup.1 0 in
+    omega (arith, power c.args.left (omega arith), c.in_ok-rest.ensures.small, c.type_inv.file c.args.at, byte)

@@ -1,4 +1,4 @@
-use Rattle.numbers.proofs.text.+put_decimal.Given as goal
+use Rattle.numbers.proofs.writer.Writer.+put_decimal.Given as goal
 
 abbrev pub decreases-put_decimal : goal.decreases-put_decimal
 decreases-put_decimal l = l.value

@@ -1,4 +1,4 @@
-use Rattle.numbers.proofs.number.+put_number.Given as goal
+use Rattle.numbers.proofs.writer.Writer.+put_number.Given as goal
 
 abbrev pub decreases-put_number : goal.decreases-put_number
 decreases-put_number l = l.value
