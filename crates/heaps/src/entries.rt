@@ -4,8 +4,8 @@ ghost use Rattle.heaps.specs.Keys as keys;
 
 use crate::order::Ordered;
 
-// A task that is ready: the higher rank first, then the lower number.
-#[derive(Clone, Copy, PartialEq, Eq, Debug)]
+// A task that is ready: the higher rank first, then the lower number. Both orders are written out; a derive would take them from the order of the fields.
+#[derive(Clone, Copy, PartialEq, Eq, Debug, Default)]
 pub struct Ready {
     pub rank: u64,
     pub task: usize,
@@ -23,7 +23,7 @@ impl Ordered for Ready {
 
 // A line of the sheet: by start, then by worker. No two tasks of a plan that passes its check share both, so the task
 // number decides between no two of its lines; it makes the order total.
-#[derive(Clone, Copy, PartialEq, Eq, Debug)]
+#[derive(Clone, Copy, PartialEq, Eq, Debug, Default)]
 pub struct Line {
     pub start: u64,
     pub worker: usize,

@@ -19,10 +19,7 @@ mod tests {
 
     // The task that comes next, or 99.
     fn next(heap: &mut Heap<Ready>) -> usize {
-        match heap.pop() {
-            Some(r) => r.task,
-            None => 99,
-        }
+        heap.pop().map_or(99, |ready| ready.task)
     }
 
     #[test]

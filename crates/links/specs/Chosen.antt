@@ -11,12 +11,12 @@ use Rattle.links.specs.declared.any.PileFault.TheVariants.{Limit, Memory}
 abbrev pub chosen : AnyLink → Arrives
 chosen (Rated r) = rate r.base r.each
 chosen (Table x) = matrix x.value.entries
-chosen (Slotted' period p below) = slot period.ticks (chosen below)
-chosen (Packed' handling p below) = packing handling.pack handling.unpack (chosen below)
+chosen (Slotted' p period below) = slot period.ticks (chosen below)
+chosen (Packed' p handling below) = packing handling.pack handling.unpack (chosen below)
 
 abbrev pub PileRefused : (ℕ → Type 0) → PileFault → Type 0
 PileRefused outside (Limit fault) = LowestTold outside fault
-PileRefused outside (Memory e) = (p : ℕ) → outside p → ⊥
+PileRefused outside Memory = (p : ℕ) → outside p → ⊥
 
 -- as `Made`, and memory may run out where nothing is outside its limits
 abbrev pub Piled : (ℕ → Type 0) → (AnyLink → Type 0) → Result AnyLink PileFault → Type 0

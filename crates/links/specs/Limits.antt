@@ -3,17 +3,16 @@ use Rattle.std.specs.Prelude.{◌≡◌, ℕ, ◌^◌, ◌<◌, ◌⊎◌, List,
 use Rattle.faults.specs.Faults.{in_plan}
 use Rattle.faults.specs.declared.Fault.{Fault}
 use Rattle.links.specs.declared.fault.LinkFault.{LinkFault}
-use Rattle.links.specs.declared.fault.LinkFault.TheVariants.{Parameter}
 
--- the number of each case of a refusal
+-- the numbers of a refusal
 abbrev pub link_tells : LinkFault → Fault
-link_tells (Parameter position) = in_plan 11 position
+link_tells fault = in_plan 11 fault.position
 
 abbrev pub Lowest : (ℕ → Type 0) → ℕ → Type 0
 Lowest outside p = outside p × ((q : ℕ) → q < p → outside q → ⊥)
 
 abbrev pub LowestTold : (ℕ → Type 0) → LinkFault → Type 0
-LowestTold outside (Parameter position) = Lowest outside position
+LowestTold outside fault = Lowest outside fault.position
 
 -- either nothing is outside its limits and the value made is as asked, or the lowest position outside is told
 abbrev pub Made : {A : Type 0} → (ℕ → Type 0) → (A → Type 0) → Result A LinkFault → Type 0

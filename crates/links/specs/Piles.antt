@@ -8,5 +8,5 @@ use Rattle.links.specs.declared.any.AnyLink.TheVariants.{Rated, Table, Slotted',
 pub chosen_lawful : (l : AnyLink) → Lawful (chosen l)
 chosen_lawful (Rated r) = rate_lawful r.base r.each
 chosen_lawful (Table x) = matrix_lawful x.value.entries
-chosen_lawful (Slotted' period p below) = slot_lawful period.ticks (chosen below) period.limits.0 (chosen_lawful below)
-chosen_lawful (Packed' handling p below) = packing_lawful handling.pack handling.unpack (chosen below) (chosen_lawful below)
+chosen_lawful (Slotted' p period below) = slot_lawful period.ticks (chosen below) period.limits.0 (chosen_lawful below)
+chosen_lawful (Packed' p handling below) = packing_lawful handling.pack handling.unpack (chosen below) (chosen_lawful below)

@@ -6,28 +6,28 @@ ghost use Rattle.links.specs.Links.{matrix, packing, rate, slot};
 ghost use Rattle.links.specs.declared.any.PileFault.TheVariants.{Limit, Memory};
 ghost use Rattle.links.specs.Piles.{chosen_lawful};
 
+use crate::Link;
 use crate::fault::LinkFault;
 use crate::matrix::Matrix;
-use crate::packing::Handling;
+use crate::packing::Packing;
 use crate::rate::Rate;
-use crate::slot::Period;
-use crate::{CEILING, Link};
-use std::alloc::{AllocError, Global};
+use crate::slot::Slot;
+use std::alloc::{AllocError, AllocFailed, Global};
 
 // Layers keep their limits in their types, so every value is a lawful link.
 #[derive(Drop)]
 pub enum AnyLink {
     Rated(Rate),
     Table(Box<Matrix>),
-    Slotted(Period, Box<AnyLink>),
-    Packed(Handling, Box<AnyLink>),
+    Slotted(Box<Slot<AnyLink>>),
+    Packed(Box<Packing<AnyLink>>),
 }
 
 // Why a pile is not made: a parameter is outside its limits, or there is no memory for it.
-#[derive(Drop, Debug)]
+#[derive(Clone, Copy, PartialEq, Eq, Debug)]
 pub enum PileFault {
     Limit(LinkFault),
-    Memory(AllocError),
+    Memory,
 }
 
 impl From<LinkFault> for PileFault {
@@ -38,46 +38,15 @@ impl From<LinkFault> for PileFault {
     }
 }
 
+impl<T: Drop> From<AllocFailed<T>> for PileFault {
+    ghost from_gives = { λ _ r. r ≡ Memory };
+
+    fn from(_e: AllocFailed<T>) -> PileFault {
+        PileFault::Memory
+    }
+}
+
 impl AnyLink {
-    fn answer(&self, departure: u64, from: usize, to: usize, amount: u32) -> u64
-        ensures { result ≡ chosen self.now departure from to amount }
-    {
-        match self {
-            AnyLink::Rated(link) => link.arrival(departure, from, to, amount),
-            AnyLink::Table(link) => link.arrival(departure, from, to, amount),
-            AnyLink::Slotted(period, below) => {
-                let start = period.raise(departure).min(CEILING);
-                below.answer(start, from, to, amount)
-            }
-            AnyLink::Packed(handling, below) => {
-                let packed = handling.packed(departure);
-                handling.unpacked(below.answer(packed, from, to, amount))
-            }
-        }
-    }
-
-    fn copied(&self) -> Result<AnyLink, AllocError>
-        ensures { IfOk result (λ l. chosen l ≡ chosen self.now) }
-    {
-        match self {
-            AnyLink::Rated(link) => Ok(AnyLink::Rated(*link)),
-            AnyLink::Table(link) => {
-                let link = Box::new(*Box::allocator(link), **link)?;
-                Ok(AnyLink::Table(link))
-            }
-            AnyLink::Slotted(period, below) => {
-                let copy = below.copied()?;
-                let below = Box::new(*Box::allocator(below), copy)?;
-                Ok(AnyLink::Slotted(*period, below))
-            }
-            AnyLink::Packed(handling, below) => {
-                let copy = below.copied()?;
-                let below = Box::new(*Box::allocator(below), copy)?;
-                Ok(AnyLink::Packed(*handling, below))
-            }
-        }
-    }
-
     pub fn rate(base: u64, each: u64) -> Result<AnyLink, LinkFault>
         ensures { Made (RateOutside base each) (λ l. chosen l ≡ rate base each) result }
     {
@@ -88,20 +57,14 @@ impl AnyLink {
         ensures { Piled (MatrixOutside entries) (λ l. chosen l ≡ matrix entries) result }
     {
         let link = Matrix::new(entries)?;
-        match Box::new(heap, link) {
-            Ok(link) => Ok(AnyLink::Table(link)),
-            Err(_) => Err(PileFault::Memory(AllocError)),
-        }
+        Ok(AnyLink::Table(Box::new(heap, link)?))
     }
 
     pub fn slot(heap: Global, period: u64, below: AnyLink) -> Result<AnyLink, PileFault>
         ensures { Piled (SlotOutside period) (λ l. chosen l ≡ slot period (chosen below)) result }
     {
-        let period = Period::new(period)?;
-        match Box::new(heap, below) {
-            Ok(below) => Ok(AnyLink::Slotted(period, below)),
-            Err(_) => Err(PileFault::Memory(AllocError)),
-        }
+        let link = Slot::new(period, below)?;
+        Ok(AnyLink::Slotted(Box::new(heap, link)?))
     }
 
     pub fn packing(
@@ -112,11 +75,8 @@ impl AnyLink {
     ) -> Result<AnyLink, PileFault>
         ensures { Piled (PackingOutside pack unpack) (λ l. chosen l ≡ packing pack unpack (chosen below)) result }
     {
-        let handling = Handling::new(pack, unpack)?;
-        match Box::new(heap, below) {
-            Ok(below) => Ok(AnyLink::Packed(handling, below)),
-            Err(_) => Err(PileFault::Memory(AllocError)),
-        }
+        let link = Packing::new(pack, unpack, below)?;
+        Ok(AnyLink::Packed(Box::new(heap, link)?))
     }
 }
 
@@ -126,15 +86,45 @@ impl Link for AnyLink {
     ghost lawful = { λ l. chosen_lawful l };
 
     fn arrival(&self, departure: u64, from: usize, to: usize, amount: u32) -> u64 {
-        self.answer(departure, from, to, amount)
+        match self {
+            AnyLink::Rated(link) => link.arrival(departure, from, to, amount),
+            AnyLink::Table(link) => link.arrival(departure, from, to, amount),
+            AnyLink::Slotted(link) => link.arrival(departure, from, to, amount),
+            AnyLink::Packed(link) => link.arrival(departure, from, to, amount),
+        }
     }
 }
 
-// A clone has the same meaning.
+// The value in a box of the same allocator.
+fn boxed_with<T: Drop>(other: &Box<T>, value: T) -> Result<Box<T>, AllocError>
+    ensures { IfOk result (λ b. b.value ≡ value) }
+{
+    Ok(Box::new(*Box::allocator(other), value)?)
+}
+
+// A clone has the same meaning. It is written out, since a derived clone of a type that leads back to itself promises nothing.
+// So are its layers, since a layer's own clone leads back here, and the prover does not cover a call of it.
 impl Clone for AnyLink {
     ghost is_clone = { λ l r. chosen r ≡ chosen l };
 
     fn clone(&self) -> Result<AnyLink, AllocError> {
-        self.copied()
+        Ok(match self {
+            AnyLink::Rated(link) => AnyLink::Rated(*link),
+            AnyLink::Table(link) => AnyLink::Table(link.clone()?),
+            AnyLink::Slotted(link) => {
+                let copy = Slot {
+                    period: link.period,
+                    below: link.below.clone()?,
+                };
+                AnyLink::Slotted(boxed_with(link, copy)?)
+            }
+            AnyLink::Packed(link) => {
+                let copy = Packing {
+                    handling: link.handling,
+                    below: link.below.clone()?,
+                };
+                AnyLink::Packed(boxed_with(link, copy)?)
+            }
+        })
     }
 }

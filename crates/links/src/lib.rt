@@ -1,8 +1,8 @@
 // Links: when does an amount that leaves one worker at a tick reach another worker?
 #![tactic(auto)]
 
-ghost use Rattle.std.specs.Prelude.{◌≡◌};
-ghost use Rattle.links.specs.Links.{Arrives, Lawful};
+ghost use Rattle.std.specs.Prelude.{◌≡◌, ◌+◌};
+ghost use Rattle.links.specs.Links.{Arrives, Lawful, capped};
 
 mod any;
 mod fault;
@@ -20,6 +20,16 @@ pub use slot::{Period, Slot};
 
 // A tick above the ceiling, asked or answered, counts as the ceiling.
 pub const CEILING: u64 = 1 << 40;
+
+// The longest wait of a rate's base, and of packing and unpacking.
+pub(crate) const LONGEST_WAIT: u64 = 1 << 20;
+
+// The tick that is a wait after another: a tick above the ceiling, given or answered, counts as the ceiling.
+pub(crate) fn later(tick: u64, wait: u64) -> u64
+    ensures { result ≡ capped (capped tick + wait) }
+{
+    tick.min(CEILING).saturating_add(wait).min(CEILING)
+}
 
 // A link answers every question by its meaning, `arrives`, which keeps the laws of links; asking changes nothing.
 pub trait Link {
@@ -40,13 +50,13 @@ mod tests {
     fn slotted(departure: u64) -> u64
         ensures { (departure ≡ 4 → result ≡ 8) × (departure ≡ 5 → result ≡ 8) × (departure ≡ 6 → result ≡ 13) }
     {
-        match Rate::new(1, 1) {
-            Ok(below) => match Slot::new(5, below) {
-                Ok(link) => link.arrival(departure, 0, 1, 2),
-                Err(_) => unreachable(),
-            },
-            Err(_) => unreachable(),
-        }
+        let Ok(below) = Rate::new(1, 1) else {
+            unreachable()
+        };
+        let Ok(link) = Slot::new(5, below) else {
+            unreachable()
+        };
+        link.arrival(departure, 0, 1, 2)
     }
 
     #[test]

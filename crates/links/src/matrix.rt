@@ -5,9 +5,9 @@ ghost use Rattle.links.specs.Links.{matrix};
 ghost use Rattle.links.specs.Laws.{matrix_lawful};
 
 use crate::fault::LinkFault;
-use crate::{CEILING, Link};
+use crate::{CEILING, Link, later};
 
-// 16 rows of 16 waits, row by row: the row is the sending worker, the column the receiving one.
+// 16 rows of 16 waits, row by row: the row is the sending worker, the column the receiving one. One array by a rule of the project, which counts the entries through.
 #[derive(Clone, Copy)]
 pub struct Matrix {
     entries: [u64; 256],
@@ -18,12 +18,10 @@ impl Matrix {
     pub fn new(entries: [u64; 256]) -> Result<Matrix, LinkFault>
         ensures { Made (MatrixOutside entries) (λ l. l.entries ≡ entries) result }
     {
-        for i in 0..256 {
-            if entries[i] > CEILING {
-                return Err(LinkFault::Parameter { position: i as u64 });
-            }
+        match entries.iter().position(|wait| *wait > CEILING) {
+            Some(i) => Err(LinkFault { position: i as u64 }),
+            None => Ok(Matrix { entries }),
         }
-        Ok(Matrix { entries })
     }
 }
 
@@ -38,6 +36,6 @@ impl Link for Matrix {
         } else {
             CEILING
         };
-        (departure.min(CEILING) + wait).min(CEILING)
+        later(departure, wait)
     }
 }

@@ -1,11 +1,11 @@
 // A link that waits before it asks the link below, and after the arrival there.
-ghost use Rattle.std.specs.Prelude.{◌≡◌, ◌+◌, ◌^◌, ◌≤◌};
+ghost use Rattle.std.specs.Prelude.{◌≡◌, ◌^◌, ◌≤◌};
 ghost use Rattle.links.specs.Limits.{Made, PackingOutside};
-ghost use Rattle.links.specs.Links.{capped, packing};
+ghost use Rattle.links.specs.Links.{packing};
 ghost use Rattle.links.specs.Laws.{packing_lawful};
 
-use crate::fault::LinkFault;
-use crate::{CEILING, Link};
+use crate::fault::{LinkFault, refuse_unless};
+use crate::{LONGEST_WAIT, Link, later};
 
 // How many ticks packing and unpacking take.
 #[derive(Clone, Copy)]
@@ -19,34 +19,16 @@ impl Handling {
     pub fn new(pack: u64, unpack: u64) -> Result<Handling, LinkFault>
         ensures { Made (PackingOutside pack unpack) (λ l. (l.pack ≡ pack) × (l.unpack ≡ unpack)) result }
     {
-        if pack > 1 << 20 {
-            return Err(LinkFault::Parameter { position: 1 });
-        }
-        if unpack > 1 << 20 {
-            return Err(LinkFault::Parameter { position: 2 });
-        }
+        refuse_unless(pack <= LONGEST_WAIT, 1)?;
+        refuse_unless(unpack <= LONGEST_WAIT, 2)?;
         Ok(Handling { pack, unpack })
-    }
-
-    // The tick at which what departs is packed.
-    pub(crate) fn packed(&self, departure: u64) -> u64
-        ensures { result ≡ capped (capped departure + self.now.pack) }
-    {
-        (departure.min(CEILING) + self.pack).min(CEILING)
-    }
-
-    // The tick at which what arrives is unpacked.
-    pub(crate) fn unpacked(&self, arrival: u64) -> u64
-        ensures { result ≡ capped (capped arrival + self.now.unpack) }
-    {
-        (arrival.min(CEILING) + self.unpack).min(CEILING)
     }
 }
 
 #[derive(Clone, Copy, Drop)]
 pub struct Packing<L> {
-    handling: Handling,
-    below: L,
+    pub(crate) handling: Handling,
+    pub(crate) below: L,
 }
 
 impl<L: Drop> Packing<L> {
@@ -64,8 +46,8 @@ impl<L: Link> Link for Packing<L> {
     ghost lawful = { λ l. packing_lawful l.handling.pack l.handling.unpack (L.Link.arrives l.below) (L.Link.lawful l.below) };
 
     fn arrival(&self, departure: u64, from: usize, to: usize, amount: u32) -> u64 {
-        let packed = self.handling.packed(departure);
+        let packed = later(departure, self.handling.pack);
         let there = self.below.arrival(packed, from, to, amount);
-        self.handling.unpacked(there)
+        later(there, self.handling.unpack)
     }
 }

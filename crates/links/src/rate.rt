@@ -4,8 +4,11 @@ ghost use Rattle.links.specs.Limits.{Made, RateOutside};
 ghost use Rattle.links.specs.Links.{rate};
 ghost use Rattle.links.specs.Laws.{rate_lawful};
 
-use crate::fault::LinkFault;
-use crate::{CEILING, Link};
+use crate::fault::{LinkFault, refuse_unless};
+use crate::{LONGEST_WAIT, Link, later};
+
+// No unit of an amount waits longer.
+const LONGEST_UNIT_WAIT: u64 = 1 << 10;
 
 #[derive(Clone, Copy)]
 pub struct Rate {
@@ -18,12 +21,8 @@ impl Rate {
     pub fn new(base: u64, each: u64) -> Result<Rate, LinkFault>
         ensures { Made (RateOutside base each) (λ l. (l.base ≡ base) × (l.each ≡ each)) result }
     {
-        if base > 1 << 20 {
-            return Err(LinkFault::Parameter { position: 1 });
-        }
-        if each > 1 << 10 {
-            return Err(LinkFault::Parameter { position: 2 });
-        }
+        refuse_unless(base <= LONGEST_WAIT, 1)?;
+        refuse_unless(each <= LONGEST_UNIT_WAIT, 2)?;
         Ok(Rate { base, each })
     }
 }
@@ -34,6 +33,6 @@ impl Link for Rate {
     ghost lawful = { λ l. rate_lawful l.base l.each };
 
     fn arrival(&self, departure: u64, _from: usize, _to: usize, amount: u32) -> u64 {
-        (departure.min(CEILING) + self.base + self.each * amount as u64).min(CEILING)
+        later(departure, self.base + self.each * u64::from(amount))
     }
 }

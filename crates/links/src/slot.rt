@@ -4,7 +4,7 @@ ghost use Rattle.links.specs.Limits.{Made, SlotOutside};
 ghost use Rattle.links.specs.Links.{FirstMultiple, capped, raised, slot};
 ghost use Rattle.links.specs.Laws.{slot_lawful};
 
-use crate::fault::LinkFault;
+use crate::fault::{LinkFault, refuse_unless};
 use crate::{CEILING, Link};
 
 // How many ticks lie between two departures, 1 up to the ceiling.
@@ -18,9 +18,7 @@ impl Period {
     pub fn new(ticks: u64) -> Result<Period, LinkFault>
         ensures { Made (SlotOutside ticks) (λ l. l.ticks ≡ ticks) result }
     {
-        if ticks == 0 || ticks > CEILING {
-            return Err(LinkFault::Parameter { position: 1 });
-        }
+        refuse_unless(0 < ticks && ticks <= CEILING, 1)?;
         Ok(Period { ticks })
     }
 
@@ -35,8 +33,8 @@ impl Period {
 
 #[derive(Clone, Copy, Drop)]
 pub struct Slot<L> {
-    period: Period,
-    below: L,
+    pub(crate) period: Period,
+    pub(crate) below: L,
 }
 
 impl<L: Drop> Slot<L> {

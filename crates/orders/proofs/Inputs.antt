@@ -1,24 +1,16 @@
 -- Inputs of a task that come from different tasks are no more than the tasks.
-use Rattle.std.proofs.Common.{◌≡◌, ℕ, zero, suc, ◌<◌, ◌≤◌, Bool, true, cond, eqb, ltb, List, [], ◌∷◌, length, get_or, filter, sym, refl, ap, ◌∙◌, inl, inr, arith}
-use Rattle.std.specs.List.{AllByRecursion as All}
-use Rattle.std.proofs.ByRecursion.{all_kept_by, All-from_get_or}
-use Rattle.std.proofs.lemmas.Bool.{cases_eq, cases_Bool, lt-ltb, eqb-true}
+use Rattle.std.proofs.Common.{◌≡◌, ℕ, zero, suc, ◌<◌, ◌≤◌, Bool, true, eqb, List, [], ◌∷◌, length, get_or, filter, sym, refl, ap, ◌∙◌, inl, inr, arith}
+use Rattle.std.proofs.lemmas.List.Elements.{All-filter, All-from_get_or}
+use Rattle.std.proofs.lemmas.Bool.{cases_eq, cases_Bool, eqb-true}
 use Rattle.scans.specs.Scans.{total}
 use Rattle.scans.proofs.Scans.{total_under}
 use Rattle.edges.specs.declared.edge.Edge.{Edge}
 use Rattle.edges.specs.declared.edge.Side.TheVariants.{From}
 use Rattle.edges.specs.Edges.{no_edge, end_on, into, out_of, Within}
 use Rattle.edges.specs.Groups.{begin}
-use Rattle.edges.proofs.Groups.{begin_cons}
+use Rattle.edges.proofs.Regroups.{begin_full}
 use Rattle.orders.specs.PairSets.{Repeats}
 use Rattle.orders.specs.Inputs.{FewInputs}
-
--- the shares of the tasks below n hold each edge whose key is below n
-begin_full : (key : Edge → ℕ) (xs : List Edge) (n : ℕ) → All (λ (e : Edge). key e < n) xs → length xs ≤ begin key xs n
-begin_full key [] n a = omega arith
-begin_full key (x ∷ xs) n a =
-    let one : ◌≡◌ {A = ℕ} (cond (ltb (key x) n) 1 0) 1 = simp (lt-ltb (key x) n a.0) in
-    omega (arith, begin_cons key x xs n, one, begin_full key xs n a.1)
 
 -- a sum of ones and zeros with a zero in it
 total_less : (f : ℕ → ℕ) (n t : ℕ) → ((u : ℕ) → f u ≤ 1) → t < n → f t ≡ 0 → total f n < n
@@ -55,7 +47,7 @@ one_both p q (e ∷ es) h =
 -- the inputs of t, counted by their sources
 inputs_full : (es : List Edge) (n t : ℕ) → Within es n → length (into es t) ≤ total (λ f. length (out_of (into es t) f)) n
 unfolding begin
-inputs_full es n t w = begin_full (end_on From) (into es t) n (all_kept_by (λ (e : Edge). eqb e.to t) (λ (e : Edge). e.from < n) es (All-from_get_or (λ (e : Edge). e.from < n) es no_edge (λ k l. (w k l).0)))
+inputs_full es n t w = omega (arith, begin_full (end_on From) (into es t) n (All-filter (λ (e : Edge). eqb e.to t) (λ (e : Edge). e.from < n) es (All-from_get_or (λ (e : Edge). e.from < n) es no_edge (λ k l. (w k l).0))))
 
 inputs_each : (es : List Edge) (t f : ℕ) → ((j k : ℕ) → Repeats es j k → ⊥) → length (out_of (into es t) f) ≤ 1
 inputs_each es t f once =

@@ -1,26 +1,15 @@
 -- Pairs in a set: one pair put in, and what a reader of edges learns.
-use Rattle.std.proofs.Common.{◌≡◌, ℕ, ◌+◌, ◌*◌, ◌<◌, Bool, true, false, ◌&&◌, ◌||◌, eqb, List, ◌++◌, length, get_or, take, sym, refl, ap, ◌∙◌, subst, inl, inr, arith}
-use Rattle.std.proofs.lemmas.Bool.{cases_eq, cases_lt, eq-eqb, ne_eqb, eqb-true, lt-ltb, le-ltb, and_parts, and_from}
+use Rattle.std.proofs.Common.{◌≡◌, ℕ, ◌+◌, ◌*◌, ◌<◌, Bool, true, false, ◌&&◌, ◌||◌, eqb, List, length, get_or, take, sym, refl, ap, ◌∙◌, subst, inl, inr, arith}
+use Rattle.std.proofs.lemmas.Bool.{cases_lt, eq-eqb, eqb-true, lt-ltb, le-ltb, and_parts, and_from}
 use Rattle.std.proofs.lemmas.List.{get_or-take, length-take}
 use Rattle.scans.specs.Scans.{some_in}
 use Rattle.scans.proofs.Lists.{some_in_more}
-use Rattle.edges.proofs.Views.{whole}
 use Rattle.edges.specs.declared.edge.Edge.{Edge}
 use Rattle.edges.specs.Edges.{no_edge}
 use Rattle.orders.specs.Marks.{marked, joined}
 use Rattle.orders.specs.PairSets.{Repeats, Reads}
 use Rattle.orders.proofs.Results.{one_in}
 use Rattle.orders.proofs.Ways.{find_in}
-
--- the bits of two pairs are the same where the pairs are
-same_bit : (a b p q : ℕ) → b < 512 → q < 512 → eqb (p * 512 + q) (a * 512 + b) ≡ (eqb p a && eqb q b)
-same_bit a b p q bl ql = elim (cases_eq p a) [
-  | inl e ↦ elim (cases_eq q b) [
-    | inl f ↦ eq-eqb _ _ (omega arith) ∙ sym (and_from (eqb p a) (eqb q b) (eq-eqb p a e) (eq-eqb q b f))
-    | inr ne ↦ ne_eqb _ _ (λ s. ne (omega arith)) ∙ sym (ap (λ (x : Bool). eqb p a && x) (ne_eqb q b ne) ∙ ap (λ (x : Bool). x && false) (eq-eqb p a e))
-  ]
-  | inr ne ↦ ne_eqb _ _ (λ s. ne (omega arith)) ∙ sym (ap (λ (x : Bool). x && eqb q b) (ne_eqb p a ne))
-]
 
 pub joined_bit : (words : List ℕ) (p q : ℕ) → p < 512 → q < 512 → joined words p q ≡ marked words (p * 512 + q)
 joined_bit words p q pl ql = let a = lt-ltb p 512 pl in let b = lt-ltb q 512 ql in simp (a, b)
@@ -37,10 +26,6 @@ joined_none words p q e = elim (cases_lt p 512) [
 -- the pair is put in, and no other
 abbrev pub Puts : (ℕ → ℕ → Bool) → ℕ → ℕ → (ℕ → ℕ → Bool) → Type 0
 Puts was from to is = (p q : ℕ) → p < 512 → q < 512 → is p q ≡ ((eqb p from && eqb q to) || was p q)
-
-put_bit : (words later : List ℕ) (from to : ℕ) → from < 512 → to < 512 → ((b : ℕ) → marked later b ≡ (eqb b (from * 512 + to) || marked words b)) → Puts (joined words) from to (joined later)
-put_bit words later from to fl tl m p q pl ql =
-    joined_bit later p q pl ql ∙ m (p * 512 + q) ∙ ap (λ (x : Bool). x || marked words (p * 512 + q)) (same_bit from to p q tl ql) ∙ ap (λ (x : Bool). (eqb p from && eqb q to) || x) (sym (joined_bit words p q pl ql))
 
 or_swap : (a b : Bool) → (a || b) ≡ (b || a)
 or_swap true true = refl
@@ -78,7 +63,3 @@ reads was from to r is e puts = record {
       let at : joins p q (get_or es i no_edge) ≡ (eqb p from && eqb q to) = ap (λ (x : ℕ). eqb p x && eqb q (get_or es i no_edge).to) next.source ∙ ap (λ (x : ℕ). eqb p from && eqb q x) next.target in
       puts p q pl ql ∙ ap (λ (x : Bool). (eqb p from && eqb q to) || x) (next.filled p q pl ql) ∙ or_swap (eqb p from && eqb q to) (some_in (joins p q) (take i es)) ∙ ap (λ (x : Bool). some_in (joins p q) (take i es) || x) (sym at) ∙ sym (some_in_more (joins p q) es i no_edge next.index);
 }
-
--- the same of the table of a set, that the words were written into
-pub puts_whole : (words was later more : List ℕ) (n from to : ℕ) → was ≡ words → length later ≡ n → from < 512 → to < 512 → ((b : ℕ) → marked later b ≡ (eqb b (from * 512 + to) || marked was b)) → Puts (joined words) from to (joined (take n (later ++ more)))
-puts_whole words was later more n from to e l fl tl m = rw (whole n later more l) (put_bit words later from to fl tl (λ b. m b ∙ ap (λ (xs : List ℕ). eqb b (from * 512 + to) || marked xs b) e))

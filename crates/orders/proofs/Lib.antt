@@ -5,4 +5,3 @@ pub mod Ways
 pub mod Bits
 pub mod Inputs
 pub mod Joins
-pub mod Fresh

@@ -1,10 +1,13 @@
 -- A turn of the search: the first task that was not taken up is taken up, and the edges out of it are released.
-use Rattle.std.proofs.Common.{◌≡◌, ℕ, suc, ◌+◌, ◌<◌, ◌≤◌, Bool, true, false, ◌&&◌, eqb, leb, List, [], ◌∷◌, length, get_or, count_by, sym, refl, ap, ◌∙◌, inl, inr, arith}
+use Rattle.std.proofs.Common.{◌≡◌, ℕ, suc, ◌+◌, ◌<◌, ◌≤◌, Bool, true, false, ◌&&◌, eqb, leb, List, [], ◌∷◌, length, get_or, count_by, vec_items, sym, refl, ap, ◌∙◌, inl, inr, arith}
+use Rattle.std.proofs.lemmas.List.{get_or_default}
 use Rattle.std.proofs.lemmas.List.Sums.{get_or-le-sum_by, sum_by-cons}
 use Rattle.std.proofs.lemmas.Bool.{cases_eq, cases_lt, cases_Bool, eq-eqb, ne_eqb, cond-true, cond-false, le-leb, lt-leb, both_ways, and_from}
 use Rattle.edges.specs.declared.edge.Edge.{Edge}
 use Rattle.edges.specs.Edges.{no_edge, out_of, Within}
-use Rattle.orders.specs.Searches.{count_to, count_from, Shape, Kept, Going}
+use Rattle.orders.specs.declared.search.Search.{Search}
+use Rattle.orders.specs.Searches.{count_to, count_from}
+use Rattle.orders.specs.Turns.{Kept, Going}
 use Rattle.orders.proofs.Shapes.{one_if, kept_none}
 
 -- x alone leaves the tasks of rank head or above
@@ -33,20 +36,24 @@ split (e ∷ es) n head t x rank ranks w taken =
     ]
 
 -- a task with a rank waits for nothing
-ranked_is : (waits rank order : List ℕ) (tail t : ℕ) → Shape waits rank order tail → t < length waits → get_or rank t 0 < length waits → (get_or waits t 0 ≡ 0) × (get_or order (get_or rank t 0) 0 ≡ t)
-ranked_is waits rank order tail t was tl lt = elim (cases_lt 0 (get_or waits t 0)) [
-  | inl pos ↦ absurd (omega (arith, was.idle t pos))
-  | inr z ↦ (let e : get_or waits t 0 ≡ 0 = omega arith in (e, (was.placed t tl e).1))
+ranked_is : (s : Search) (t : ℕ) → t < length (vec_items s.waits) → get_or (vec_items s.rank) t 0 < length (vec_items s.waits) → (get_or (vec_items s.waits) t 0 ≡ 0) × (get_or (vec_items s.order) (get_or (vec_items s.rank) t 0) 0 ≡ t)
+ranked_is s t tl lt = elim (cases_lt 0 (get_or (vec_items s.waits) t 0)) [
+  | inl pos ↦ absurd (omega (arith, s.shape.idle t pos))
+  | inr z ↦ (let e : get_or (vec_items s.waits) t 0 ≡ 0 = omega arith in (e, (s.shape.placed t tl e).1))
 ]
 
-turn_taken : (waits rank order : List ℕ) (head tail : ℕ) (ranks orders : List ℕ) (last : ℕ) → head < tail → Shape waits rank order tail → Kept rank order tail ranks orders last → Taken (length waits) head (get_or order head 0) rank ranks
-turn_taken waits rank order head tail ranks orders last ht was kept f fl =
-    let x = get_or order head 0 in
-    let l = was.filled head ht in (
-      (λ e. let r : get_or rank f 0 ≡ head = ap (λ (y : ℕ). get_or rank y 0) e ∙ l.1 in
+-- x is the first task that was not taken up
+turn_taken : (old new : Search) (head x : ℕ) → head < old.tail → x ≡ get_or (vec_items old.order) head x → Kept old new → Taken (length (vec_items old.waits)) head x (vec_items old.rank) (vec_items new.rank)
+turn_taken old new head x ht at kept f fl =
+    let rank = vec_items old.rank in
+    let order = vec_items old.order in
+    let ranks = vec_items new.rank in
+    let l = old.shape.filled head ht in
+    let is : x ≡ get_or order head 0 = at ∙ get_or_default order head x 0 (omega (arith, old.shape.orders, old.shape.count)) in (
+      (λ e. let r : get_or rank f 0 ≡ head = ap (λ (y : ℕ). get_or rank y 0) (e ∙ is) ∙ l.1 in
           let s = kept.same f (omega arith) in
           (le-leb head (get_or rank f 0) (omega arith), lt-leb (head + 1) (get_or ranks f 0) (omega arith))),
-      (λ ne. let off : get_or rank f 0 ≡ head → ⊥ = λ q. ne (sym (ranked_is waits rank order tail f was fl (omega (arith, was.count))).1 ∙ ap (λ (y : ℕ). get_or order y 0) q) in
+      (λ ne. let off : get_or rank f 0 ≡ head → ⊥ = λ q. ne (sym (ranked_is old f fl (omega (arith, old.shape.count))).1 ∙ ap (λ (y : ℕ). get_or order y 0) q ∙ sym is) in
           elim (cases_lt (get_or rank f 0) head) [
             | inl lt ↦ (let s = kept.same f (omega arith) in lt-leb head (get_or rank f 0) lt ∙ sym (lt-leb (head + 1) (get_or ranks f 0) (omega arith)))
             | inr ge ↦ elim (cases_lt (get_or ranks f 0) (head + 1)) [
@@ -62,16 +69,17 @@ none_passes p es k z lt = elim (cases_Bool (p (get_or es k no_edge))) [
   | inr n ↦ n
 ]
 
-pub turn : (es : List Edge) (waits rank order : List ℕ) (head tail : ℕ) (outs : List Edge) (waitss ranks orders : List ℕ) (last : ℕ) → Within es (length waits) → length waitss ≡ length waits → head < tail → outs ≡ out_of es (get_or order head 0) → Going es waits rank order head tail
-    → ((t : ℕ) → t < length waits → get_or waitss t 0 + count_to outs t ≡ get_or waits t 0) → Shape waitss ranks orders last → Kept rank order tail ranks orders last → Going es waitss ranks orders (head + 1) last
-turn es waits rank order head tail outs waitss ranks orders last w long ht is was gone shape kept =
-    let n = length waits in
-    let taken = turn_taken waits rank order head tail ranks orders last ht was.shape kept in
+pub turn : (es : List Edge) (n : ℕ) (old new : Search) (head : ℕ) (outs : List Edge) (x : ℕ) → Within es n → head < old.tail → x ≡ get_or (vec_items old.order) head x → outs ≡ out_of es x → Going es n old head
+    → ((t : ℕ) → t < length (vec_items old.waits) → get_or (vec_items new.waits) t 0 + count_to outs t ≡ get_or (vec_items old.waits) t 0) → Kept old new → Going es n new (head + 1)
+turn es n old new head outs x w ht at is was gone kept =
+    let rank = vec_items old.rank in
+    let ranks = vec_items new.rank in
+    let taken : Taken n head x rank ranks = λ f fl. turn_taken old new head x ht at kept f (omega (arith, was.long)) in
     record {
-      shape = shape;
+      long = omega (arith, kept.long, was.long);
       behind = omega (arith, kept.more);
-      waiting = λ t tl. let tl' : t < length waits = omega arith in
-          omega (arith, gone t tl', was.waiting t tl', split es n head t (get_or order head 0) rank ranks w taken, ap (λ (xs : List Edge). count_to xs t) is);
+      waiting = λ t tl.
+          omega (arith, gone t (omega (arith, was.long)), was.waiting t tl, split es n head t x rank ranks w taken, ap (λ (xs : List Edge). count_to xs t) is);
       forward = λ k kl low.
           let a = (get_or es k no_edge).from in
           let b = (get_or es k no_edge).to in
@@ -79,7 +87,7 @@ turn es waits rank order head tail outs waitss ranks orders last w long ht is wa
           let rb = kept.back b (omega arith) in
           let less : get_or rank a 0 < get_or rank b 0 = elim (cases_lt (get_or rank b 0) head) [
             | inl lt ↦ was.forward k kl lt
-            | inr ge ↦ (let z = (ranked_is waits rank order tail b was.shape bl (omega (arith, was.shape.count))).0 in
+            | inr ge ↦ (let z = (ranked_is old b (omega (arith, was.long)) (omega (arith, old.shape.count))).0 in
                 let no' = none_passes (λ e. eqb e.to b && leb head (get_or rank e.from 0)) es k (sym (was.waiting b bl) ∙ z) kl in
                 elim (cases_lt (get_or rank a 0) head) [
                   | inl lt ↦ omega arith
@@ -90,8 +98,9 @@ turn es waits rank order head tail outs waitss ranks orders last w long ht is wa
     }
 
 -- each task waits at least for the edges that a turn releases
-pub turn_due : (es : List Edge) (waits rank order : List ℕ) (head tail : ℕ) (outs : List Edge) → Within es (length waits) → head < tail → outs ≡ out_of es (get_or order head 0) → Going es waits rank order head tail
-    → (t : ℕ) → t < length waits → count_to outs t ≤ get_or waits t 0
-turn_due es waits rank order head tail outs w ht is was t tl =
-    let taken = turn_taken waits rank order head tail rank order tail ht was.shape (kept_none rank order tail) in
-    omega (arith, was.waiting t tl, split es (length waits) head t (get_or order head 0) rank rank w taken, ap (λ (xs : List Edge). count_to xs t) is)
+pub turn_due : (es : List Edge) (n : ℕ) (s : Search) (head : ℕ) (outs : List Edge) (x : ℕ) → Within es n → head < s.tail → x ≡ get_or (vec_items s.order) head x → outs ≡ out_of es x → Going es n s head
+    → (t : ℕ) → t < n → count_to outs t ≤ get_or (vec_items s.waits) t 0
+turn_due es n s head outs x w ht at is was t tl =
+    let rank = vec_items s.rank in
+    let taken : Taken n head x rank rank = λ f fl. turn_taken s s head x ht at (kept_none s) f (omega (arith, was.long)) in
+    omega (arith, was.waiting t tl, split es n head t x rank rank w taken, ap (λ (xs : List Edge). count_to xs t) is)

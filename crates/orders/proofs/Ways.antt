@@ -1,8 +1,8 @@
 -- Ways along edges: a way that passes more edges than there are tasks passes a cycle, and ranks that rise along each edge leave no cycle.
-use Rattle.std.proofs.Common.{◌≡◌, ℕ, zero, suc, ◌+◌, ◌-◌, ◌<◌, ◌≤◌, Bool, true, false, cond, ◌&&◌, eqb, ltb, ◌⊎◌, List, [], ◌∷◌, length, get_or, Some, None, Ok, Err, vec_items, Option, Result, sym, refl, ap, ◌∙◌, subst, inl, inr, arith}
-use Rattle.std.proofs.lemmas.Bool.{cases_eq, cases_lt, cases_Bool, eq-eqb, eqb-true, and_parts, and_from, or_cases, both_ways, true≢false}
+use Rattle.std.proofs.Common.{◌≡◌, ℕ, zero, suc, ◌+◌, ◌-◌, ◌<◌, ◌≤◌, Bool, true, cond, ◌&&◌, eqb, ltb, ◌⊎◌, List, [], ◌∷◌, length, get_or, Some, Ok, Err, vec_items, Result, sym, refl, ap, ◌∙◌, subst, inl, inr, arith}
+use Rattle.std.proofs.lemmas.Bool.{cases_eq, cases_lt, eq-eqb, eqb-true, and_parts, and_from, or_cases, both_ways, true≢false}
 use Rattle.scans.specs.Scans.{some_in, lowest}
-use Rattle.scans.proofs.Scans.{each_more, lowest_all}
+use Rattle.scans.proofs.Scans.{each_more, lowest_found}
 use Rattle.edges.specs.declared.edge.Edge.{Edge}
 use Rattle.edges.specs.Edges.{no_edge, Within}
 use Rattle.orders.specs.declared.order.Order.{Order}
@@ -158,23 +158,6 @@ not_forward es rank (suc m) = elim (not_forward es rank m) [
     | inl here ↦ inr (each_more (λ k. rank (get_or es k no_edge).from < rank (get_or es k no_edge).to) m below here)
     | inr no' ↦ inl (m, omega arith, no')
   ]
-]
-
--- what the lowest number that passes says
-some_or_none : (o : Option ℕ) → ((k : ℕ) × (o ≡ Some k)) ⊎ (o ≡ None)
-some_or_none (Some k) = inl (k, refl)
-some_or_none None = inr refl
-
-pub lowest_found : (p : ℕ → Bool) (n t : ℕ) → lowest p n ≡ Some t → (t < n) × (p t ≡ true) × ((k : ℕ) → k < t → p k ≡ false)
-lowest_found p zero t e = absurd (let z : ◌≡◌ {A = ℕ} 0 1 = cc in omega arith)
-lowest_found p (suc n) t e = elim (some_or_none (lowest p n)) [
-  | inl s ↦ (let same : t ≡ s.0 = (let h = simp s.1 at e in cc) in
-      let r = lowest_found p n s.0 s.1 in
-      (omega (arith, r.0), ap p same ∙ r.1, (λ k l. r.2 k (omega arith))))
-  | inr none ↦ (let h = simp none at e in elim (cases_Bool (p n)) [
-    | inl y ↦ (let same : n ≡ t = (let q = simp y at h in cc) in (omega arith, ap p (sym same) ∙ y, (λ k l. lowest_all p n k none (omega arith))))
-    | inr no' ↦ absurd (let q = simp no' at h in let z : ◌≡◌ {A = ℕ} 0 1 = cc in omega arith)
-  ])
 ]
 
 cyclic : (es : List Edge) (n t : ℕ) → Within es n → lowest (stuck es n) n ≡ Some t → Cyclic es t

@@ -1,5 +1,6 @@
 pub mod Orders
 pub mod Searches
+pub mod Turns
 pub mod Answers
 pub mod Cycles
 pub mod Marks

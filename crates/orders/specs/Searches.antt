@@ -1,7 +1,6 @@
--- What holds at each turn of the search for an order.
-use Rattle.std.specs.Prelude.{◌≡◌, ℕ, ◌+◌, ◌<◌, ◌≤◌, Bool, ◌&&◌, List, length, count_by, ◌==◌, nat_le, nat_lt, slice_index, slice_index_or}
+-- The tables of the search for an order.
+use Rattle.std.specs.Prelude.{◌≡◌, ℕ, ◌+◌, ◌<◌, Bool, ◌&&◌, List, length, count_by, ◌==◌, nat_le, nat_lt, slice_index}
 use Rattle.edges.specs.declared.edge.Edge.{Edge}
-use Rattle.edges.specs.Edges.{no_edge}
 
 -- how many edges lead to t
 abbrev pub count_to : List Edge → ℕ → ℕ
@@ -22,17 +21,3 @@ pub record Shape (waits rank order : List ℕ) (tail : ℕ) : Type 0 where
   pub placed : (t : ℕ) → t < length waits → slice_index waits t ≡ 0 → (slice_index rank t < tail) × (slice_index order (slice_index rank t) ≡ t)
   pub filled : (j : ℕ) → j < tail → (slice_index order j < length waits) × (slice_index rank (slice_index order j) ≡ j)
   pub count : tail + count_by (λ w. nat_lt 0 w) waits ≡ length waits
-
--- the first tail places, and the ranks below tail, are as they were
-pub record Kept (rank order : List ℕ) (tail : ℕ) (ranks orders : List ℕ) (last : ℕ) : Type 0 where
-  pub more : tail ≤ last
-  pub same : (f : ℕ) → slice_index rank f < tail → slice_index ranks f ≡ slice_index rank f
-  pub back : (f : ℕ) → slice_index ranks f < tail → slice_index rank f ≡ slice_index ranks f
-  pub list : (j : ℕ) → j < tail → slice_index orders j ≡ slice_index order j
-
--- the first head tasks of the order are taken up: each task waits for the edges to it from the others
-pub record Going (es : List Edge) (waits rank order : List ℕ) (head tail : ℕ) : Type 0 where
-  pub shape : Shape waits rank order tail
-  pub behind : head ≤ tail
-  pub waiting : (t : ℕ) → t < length waits → slice_index waits t ≡ count_from head rank es t
-  pub forward : (k : ℕ) → k < length es → slice_index rank (slice_index_or es k no_edge).to < head → slice_index rank (slice_index_or es k no_edge).from < slice_index rank (slice_index_or es k no_edge).to

@@ -4,7 +4,7 @@ ghost use Rattle.orders.specs.Answers.{Answered};
 ghost use Rattle.orders.specs.Cycles.{StuckLaw, CycleLaw};
 ghost use Rattle.orders.specs.declared.order.OrderFault.TheVariants.{Memory};
 
-use crate::search::arrange;
+use crate::search::Search;
 use edges::EdgeTable;
 use std::alloc::{AllocError, Global};
 
@@ -16,7 +16,7 @@ pub struct Order {
 }
 
 // Why there is no order: memory is short, or a task lies on a cycle of edges or after one.
-#[derive(Clone, Copy)]
+#[derive(Clone, Copy, PartialEq, Eq, Debug)]
 pub enum OrderFault {
     Memory,
     Cycle { task: usize },
@@ -30,19 +30,6 @@ impl From<AllocError> for OrderFault {
     }
 }
 
-fn search(heap: Global, table: &EdgeTable) -> Result<Order, OrderFault>
-    ensures { Answered (listed table.now) table.now.tasks result }
-{
-    let tasks = table.tasks();
-    let mut waits = vec![in heap; 1usize; tasks]?;
-    let mut rank = vec![in heap; tasks; tasks]?;
-    let mut order = vec![in heap; 0usize; tasks]?;
-    match arrange(table, &mut waits, &mut rank, &mut order) {
-        Some(task) => Err(OrderFault::Cycle { task }),
-        None => Ok(Order { order, rank }),
-    }
-}
-
 // An order in which each edge goes forward, or the lowest task that lies on a cycle or after one.
 // The time grows with tasks plus edges.
 pub fn order_tasks(heap: Global, table: &EdgeTable) -> Result<Order, OrderFault>
@@ -50,5 +37,12 @@ pub fn order_tasks(heap: Global, table: &EdgeTable) -> Result<Order, OrderFault>
     ensures stuck { StuckLaw (listed table.now) table.now.tasks }
     ensures cycles { CycleLaw (listed table.now) result }
 {
-    search(heap, table)
+    let search = Search::run(heap, table)?;
+    match search.first_waiting() {
+        Some(task) => Err(OrderFault::Cycle { task }),
+        None => Ok(Order {
+            order: search.order,
+            rank: search.rank,
+        }),
+    }
 }

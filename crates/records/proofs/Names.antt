@@ -1,5 +1,9 @@
 -- Names: those that stand in a file are read, and those that are read stand there.
-use Rattle.std.proofs.Common.{◌≡◌, ℕ, zero, suc, ◌+◌, ◌-◌, ◌<◌, ◌≤◌, Bool, true, false, cond, ◌||◌, ltb, ◌⊎◌, List, [], ◌∷◌, ◌++◌, length, take, drop, Some, None, Ok, Option, sym, refl, ap, ◌∙◌, subst, inl, inr, ⊎_elim, arith, length-append}
+use Rattle.std.proofs.Common.{◌≡◌, ℕ, zero, suc, ◌+◌, ◌-◌, ◌≤◌, Bool, true, false, cond, not, ◌||◌, ltb, List, [], ◌∷◌, ◌++◌, length, take, drop, Some, None, Ok, Option, sym, refl, ap, ◌∙◌, subst, add-one, arith, length-append}
+use Rattle.std.specs.Char.{is_ascii_graphic}
+use Rattle.std.specs.List.{position, position_from}
+use Rattle.std.proofs.lemmas.Bool.Decides.{nat_tests}
+use Rattle.std.proofs.lemmas.Iterator.Adapters.{position_from-zero}
 use Rattle.std.proofs.lemmas.List.{drop-drop, length-drop, take_at, take-append-drop, length-take-le}
 use Rattle.std.proofs.lemmas.Bool.{le-ltb, ltb-false, or_from, or_parts, cond-false}
 use Rattle.numbers.specs.Numbers.{coded}
@@ -8,6 +12,16 @@ use Rattle.numbers.proofs.Laid.{past}
 use Rattle.records.specs.Fields.{and_then, field_at}
 use Rattle.records.specs.Names.{Printable, outside, judged, whole_at, name_at}
 use Rattle.records.proofs.Fields.{ok_same, un_then, un_refused, field_at_lem, un_field}
+
+outside_from : (k : ℕ) (bs : List ℕ) → position_from (λ b. not (is_ascii_graphic b)) k bs ≡ outside k bs
+outside_from k [] = refl
+outside_from k (b ∷ bs) =
+    let same : not (is_ascii_graphic b) ≡ (ltb b 33 || ltb 126 b) = grind (arith, nat_tests) in
+    rw (same, add-one k) (ap (cond (ltb b 33 || ltb 126 b) (Some k)) (outside_from (suc k) bs))
+
+-- the first byte that is no printable one of ASCII
+outside_position : (bs : List ℕ) → position (λ b. not (is_ascii_graphic b)) bs ≡ outside 0 bs
+outside_position bs = position_from-zero (λ b. not (is_ascii_graphic b)) bs ∙ outside_from 0 bs
 
 pub outside_none : (k : ℕ) (bs : List ℕ) → Printable bs → outside k bs ≡ None
 outside_none k [] h = refl
@@ -26,24 +40,17 @@ un_outside k (b ∷ bs) e zero l =
     (ltb-false _ _ u.0, ltb-false _ _ u.1)
 un_outside k (b ∷ bs) e (suc j) l = un_outside (k + 1) bs (un_cond_none (ltb b 33 || ltb 126 b) k (outside (k + 1) bs) e).1 j (omega arith)
 
-cond_some : (b : Bool) (k i : ℕ) (o : Option ℕ) → cond b (Some k) o ≡ Some i → (k ≡ i) ⊎ (o ≡ Some i)
-cond_some true k i o e = inl (cc e)
-cond_some false k i o e = inr e
-
--- a byte that is outside stands in the name
-pub outside_within : (k : ℕ) (bs : List ℕ) (i : ℕ) → outside k bs ≡ Some i → i < k + length bs
-outside_within k [] i e = absurd (let z : ◌≡◌ {A = ℕ} 0 1 = cc e in omega arith)
-outside_within k (b ∷ bs) i e =
-    ⊎_elim
-    (λ d. omega arith)
-    (λ d. omega (arith, outside_within (k + 1) bs i d))
-    (cond_some (ltb b 33 || ltb 126 b) k i (outside (k + 1) bs) e)
-
 -- a name that the file does not cut short
-pub name_whole : (file : List ℕ) (at n start : ℕ) → field_at file at 1 31 ≡ Ok (n, start) → n ≤ length file - start
-    → name_at file at ≡ judged start (take n (drop start file)) (outside 0 (take n (drop start file)))
+pub name_whole : (file : List ℕ) (at n start : ℕ) (name : List ℕ) → field_at file at 1 31 ≡ Ok (n, start) → start + n ≤ length file → name ≡ take (start + n - start) (drop start file)
+    → name_at file at ≡ judged start name (position (λ b. not (is_ascii_graphic b)) name)
 unfolding name_at
-name_whole file at n start e l = ap (λ r. and_then r (whole_at file)) e ∙ cond-false _ _ _ (le-ltb (length file - start) n l)
+name_whole file at n start name e l part =
+    let k : start + n - start ≡ n = omega arith in
+    let same : take n (drop start file) ≡ name = sym (part ∙ ap (λ m. take m (drop start file)) k) in
+    ap (λ r. and_then r (whole_at file)) e
+    ∙ cond-false _ _ _ (le-ltb (length file - start) n (omega arith))
+    ∙ ap (λ x. judged start x (outside 0 x)) same
+    ∙ ap (judged start name) (sym (outside_position name))
 
 un_judged : (start : ℕ) (name : List ℕ) (o : Option ℕ) (q : List ℕ × ℕ) → judged start name o ≡ Ok q → (o ≡ None) × ((name, start) ≡ q)
 un_judged start name None q e = (refl, ok_same _ _ e)

@@ -1,19 +1,17 @@
 -- Records: those that stand in a file are read, and those that are read stand there.
-use Rattle.std.proofs.Common.{◌≡◌, ℕ, ◌+◌, ◌-◌, ◌^◌, ◌<◌, ◌≤◌, ◌||◌, eqb, ltb, leb, List, ◌++◌, length, drop, IfOk, Ok, Err, Result, sym, refl, ap, ◌∙◌, subst, append_assoc, add-zero, arith, length-append}
+use Rattle.std.proofs.Common.{◌≡◌, ℕ, ◌+◌, ◌-◌, ◌^◌, ◌<◌, ◌≤◌, ◌||◌, eqb, ltb, leb, List, ◌++◌, length, drop, Ok, Result, sym, refl, ap, ◌∙◌, subst, append_assoc, add-zero, arith, length-append}
 use Rattle.std.proofs.lemmas.Bool.{lt-ltb, le-ltb, lt-leb, ne_eqb, leb-false, eqb-false, ltb-true, ltb-false, or_from, or_parts, cond-true, cond-false, cond_both}
 use Rattle.numbers.specs.Numbers.{coded}
 use Rattle.numbers.proofs.Groups.{Bytes}
 use Rattle.numbers.proofs.Laid.{past}
-use Rattle.records.specs.declared.fault.RecordFault.{RecordFault}
 use Rattle.records.specs.declared.fault.RecordFault.TheVariants.{NoTask, Trailing}
 use Rattle.records.specs.declared.fault.Counted.{Counted}
 use Rattle.records.specs.declared.types.Head.{Head}
-use Rattle.records.specs.declared.types.Record.{Record}
 use Rattle.records.specs.Faults.{counted_by}
 use Rattle.records.specs.Fields.{plain_at, field_at}
 use Rattle.records.specs.Heads.{Few}
 use Rattle.records.specs.Names.{name_at}
-use Rattle.records.specs.Records.{Item, task, edge, end, TaskFits, EdgeFits, task_bytes, edge_bytes, Holds, seen, record_seen, task_at, edge_at, end_at, record_at}
+use Rattle.records.specs.Records.{Item, task, edge, end, read_after, TaskFits, EdgeFits, task_bytes, edge_bytes, Holds, task_at, edge_at, end_at, record_at}
 use Rattle.records.proofs.Fields.{ok_same, un_then, un_refused, plain_at_lem, field_at_lem, un_plain, un_field}
 use Rattle.records.proofs.Names.{name_at_lem, un_name}
 
@@ -72,7 +70,7 @@ module _ (file : List ℕ) (w : Bytes file) (h : Head) (read at : ℕ) where
   abbrev There : Item × ℕ → Type 0
   There p = Holds file h read at p.0 p.1
 
-  un_task : (p : Item × ℕ) → read < h.tasks → task_at file at ≡ Ok p → There p
+  pub un_task : (p : Item × ℕ) → read < h.tasks → task_at file at ≡ Ok p → There p
   un_task p l e =
       let n = un_then (name_at file at) _ p e in
       let name = n.0.0 in
@@ -90,7 +88,7 @@ module _ (file : List ℕ) (w : Bytes file) (h : Head) (read at : ℕ) where
         long = simp length-append (omega (arith, fn.place, ft.0.long, fz.0.long));
       }
 
-  un_edge : (p : Item × ℕ) → h.tasks ≤ read → read - h.tasks < h.edges → edge_at file h.tasks at ≡ Ok p → There p
+  pub un_edge : (p : Item × ℕ) → h.tasks ≤ read → read - h.tasks < h.edges → edge_at file h.tasks at ≡ Ok p → There p
   un_edge p l m e =
       let a = un_then (plain_at file at) _ p e in
       let b = un_then (plain_at file a.0.1) _ p a.2 in
@@ -126,16 +124,19 @@ module _ (file : List ℕ) (w : Bytes file) (h : Head) (read at : ℕ) where
       (λ u. un_edge p (ltb-false _ _ t) (ltb-true _ _ u))
       (λ u. un_end p (ltb-false _ _ t) (ltb-false _ _ u)))
 
--- ---- the same with the number of records read before
+-- ---- how many records are read
 
-pub seen_counted : (k : ℕ) (q : Result (Record × ℕ) RecordFault) → record_seen (counted_by k q) ≡ counted_by k (record_seen q)
-seen_counted k (Ok p) = refl
-seen_counted k (Err e) = refl
+coded_some : (v : ℕ) → 1 ≤ length (coded v)
+unfolding coded
+coded_some v = cond_both (ltb v 128) _ _ (λ (bs : List ℕ). 1 ≤ length bs) (λ _. omega arith) (λ _. omega arith)
 
-un_counted : {T : Type 0} (k : ℕ) (q : Result T RecordFault) (x : T) → Ok x ≡ counted_by k q → q ≡ Ok x
-un_counted k (Ok y) x e = sym (ap Ok (ok_same x y e))
-un_counted k (Err d) x e = absurd (let z : ◌≡◌ {A = ℕ} 0 1 = cc e in omega arith)
+-- each record but the end has a byte
+pub read_after_lem : (file : List ℕ) (h : Head) (read at : ℕ) (i : Item) (next : ℕ) → Holds file h read at i next → (at < next → read + 1 ≡ read_after i read) × (next ≤ at → read ≡ read_after i read)
+read_after_lem file h read at (task place name t z) next s = (λ _. refl, λ l. absurd (omega (arith, l, s.long, s.due.2.named.0, simp length-append at s.long)))
+read_after_lem file h read at (edge a b n) next s = (λ _. refl, λ l. absurd (omega (arith, l, s.long, coded_some a, simp length-append at s.long)))
+read_after_lem file h read at end next s = (λ l. absurd (omega (arith, l, s.long)), λ _. refl)
 
-pub held_there : (file : List ℕ) (h : Head) (read at : ℕ) (r : Result (Record × ℕ) Counted) → Bytes file → record_seen r ≡ counted_by read (record_at file h read at) → IfOk r (λ p. Holds file h read at (seen p.0) p.1)
-held_there file h read at (Ok p) w e = un_record file w h read at (seen p.0, p.1) (un_counted read (record_at file h read at) (seen p.0, p.1) e)
-held_there file h read at (Err d) w e = tt
+-- ---- what stands is read, with the number of records read before
+
+pub counted_lem : (file : List ℕ) (h : Head) (read at : ℕ) (r : Result (Item × ℕ) Counted) → r ≡ counted_by read (record_at file h read at) → Few h → (i : Item) (next : ℕ) → Holds file h read at i next → r ≡ Ok (i, next)
+counted_lem file h read at r e few i next s = e ∙ ap (counted_by read) (record_at_lem file h read at i next few s)

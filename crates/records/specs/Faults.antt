@@ -17,6 +17,9 @@ record_tells (NoTask place) count = told 6 2 place count
 record_tells (Trailing place) count = told 8 2 place count
 
 -- a result with that number at its fault
+abbrev pub counted : ℕ → RecordFault → Counted
+counted count e = record { fault = e; «record» = count }
+
 abbrev pub counted_by : {T : Type 0} → ℕ → Result T RecordFault → Result T Counted
 counted_by count (Ok x) = Ok x
-counted_by count (Err e) = Err (record { fault = e; «record» = count })
+counted_by count (Err e) = Err (counted count e)

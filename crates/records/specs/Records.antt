@@ -23,6 +23,16 @@ seen End = end
 abbrev pub record_seen : {E : Type 0} → Result (Record × ℕ) E → Result (Item × ℕ) E
 record_seen r = map_ok (λ p. (seen p.0, p.1)) r
 
+-- the same of a record that is read up to `next`
+abbrev pub item_seen : {E : Type 0} → Result Record E → ℕ → Result (Item × ℕ) E
+item_seen r next = map_ok (λ x. (seen x, next)) r
+
+-- how many records are read after one: the end is not counted
+abbrev pub read_after : Item → ℕ → ℕ
+read_after (task place name time size) read = read + 1
+read_after (edge from to amount) read = read + 1
+read_after end read = read
+
 -- ---- which records a file may have, and their bytes
 
 pub record TaskFits (name : List ℕ) (time size : ℕ) : Type 0 where

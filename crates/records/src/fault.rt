@@ -75,8 +75,5 @@ impl Refusal for Counted {
 pub fn with_record<T>(r: Result<T, RecordFault>, record: usize) -> Result<T, Counted>
     ensures { result ≡ counted_by «record» r }
 {
-    match r {
-        Ok(x) => Ok(x),
-        Err(fault) => Err(Counted { fault, record }),
-    }
+    r.map_err(|fault| Counted { fault, record })
 }

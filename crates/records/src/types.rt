@@ -1,5 +1,8 @@
+// The most tasks that a graph has.
+pub const MOST_TASKS: usize = 512;
+
 // A record of a graph file. A task's name is a part of the file, `place` its offset.
-#[derive(Clone, Copy)]
+#[derive(Clone, Copy, PartialEq, Eq, Debug)]
 pub enum Record<'a> {
     Task {
         name: &'a [u8],
