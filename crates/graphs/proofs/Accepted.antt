@@ -12,6 +12,7 @@ use Rattle.orders.specs.Cycles.{AfterCycle}
 use Rattle.orders.proofs.Results.{one_in}
 use Rattle.orders.proofs.Ways.{stuck_law}
 use Rattle.numbers.proofs.Groups.{Bytes}
+use Rattle.records.specs.Faults.{counted}
 use Rattle.records.specs.declared.types.Head.{Head}
 use Rattle.records.specs.Heads.{Few, head_bytes, head_at, Opens}
 use Rattle.records.specs.Records.{Item, task, edge, end, TaskFits, EdgeFits, task_bytes, edge_bytes, Holds, record_at}
@@ -144,7 +145,7 @@ module _ (file : List ℕ) (w : Bytes file) (h : Head) (few : Few h) where
   ended at end next s = s.due.1
 
   pub came : (read at : ℕ) (r : Item × ℕ) → in_record read (record_at file h read at) ≡ Ok r → Holds file h read at r.0 r.1
-  came read at r e = un_record file w h read at r (un_map_err (λ d. InRecord d read) (record_at file h read at) r e)
+  came read at r e = un_record file w h read at r (un_map_err (λ d. InRecord (counted read d)) (record_at file h read at) r e)
 
   pub all_read : (n read at : ℕ) (p q : Parts) → n + read ≡ h.tasks + h.edges → Going read at p → parts_from n file h read at p ≡ Ok q → (next : ℕ) × Going (h.tasks + h.edges) next q × (length file ≤ next)
   unfolding parts_from
@@ -219,7 +220,7 @@ unfolding graph_of
 accepted file p w e =
     let u = un_then (in_record 0 (head_at file)) _ p e in
     let h = u.0 in
-    let o = un_head file h w (un_map_err (λ d. InRecord d 0) (head_at file) h u.1) in
+    let o = un_head file h w (un_map_err (λ d. InRecord (counted 0 d)) (head_at file) h u.1) in
     let v = un_then (all_parts file h) uncycled p u.2 in
     let q = v.0 in
     let s = parts_limited file w h o.few q o v.1 in

@@ -6,6 +6,7 @@ use Rattle.orders.specs.declared.order.OrderFault.TheVariants as order
 use Rattle.orders.specs.Orders.{stuck}
 use Rattle.orders.proofs.Ways.{cycle_law}
 use Rattle.numbers.proofs.Groups.{Bytes}
+use Rattle.records.specs.Faults.{counted}
 use Rattle.records.specs.declared.fault.RecordFault.{RecordFault}
 use Rattle.records.specs.declared.types.Head.{Head}
 use Rattle.records.specs.Heads.{head_at}
@@ -60,7 +61,7 @@ cycle_in file t w e = elim (un_err (in_record 0 (head_at file)) _ (Cycle t) e) [
         let h = b.0 in
         let p = d.0 in
         let n = length p.tasks in
-        let o = un_head file h w (un_map_err (λ f. InRecord f 0) (head_at file) h b.1) in
+        let o = un_head file h w (un_map_err (λ f. InRecord (counted 0 f)) (head_at file) h b.1) in
         let s = parts_limited file w h o.few p o d.1 in
         let l = un_refused_at (lowest (stuck p.edges n) n) p t d.2 in
         (p, s.1, s.0, cycle_law p.edges n (Err (order.Cycle t)) (within_limits p s.1) l))

@@ -85,9 +85,8 @@ module _ (file : List ℕ) (h : Head) (few : Few h) where
       → parts_from (length es) file h read at q ≡ Ok (parts_over q.tasks q.names (q.edges ++ es))
   read_edges_lem [] read at q a l f o d =
       let len : length file ≤ at = omega (arith, length-drop at file, ap length d) in
-      let k : read ≡ h.tasks + h.edges = omega arith in
-      let s : Holds file h (h.tasks + h.edges) at end at = record { due = (omega arith, len); bytes = refl; long = omega arith } in
-      turn_ends file h read at q 0 (h.tasks + h.edges) (end, at) refl k (record_at_lem file h (h.tasks + h.edges) at end at few s)
+      let s : Holds file h read at end at = record { due = (omega arith, len); bytes = refl; long = omega arith } in
+      turn_ends file h read at q 0 (end, at) refl (record_at_lem file h read at end at few s)
       ∙ ap (λ (x : List Edge). Ok (parts_over q.tasks q.names x)) (sym (append-nil q.edges))
   read_edges_lem (e ∷ es) read at q a l f o d =
       let b = edge_bytes e.from e.to e.amount in

@@ -1,16 +1,14 @@
 -- Where the tasks stand in the file of their graph.
-use Rattle.std.proofs.Common.{◌≡◌, ℕ, zero, suc, ◌+◌, ◌<◌, ◌≤◌, cond, ltb, List, [], ◌∷◌, ◌++◌, length, get_or, take, drop, Ok, Err, Result, sym, refl, ap, ◌∙◌, subst, append_assoc, append-nil, arith, Bor}
+use Rattle.std.proofs.Common.{◌≡◌, ℕ, zero, suc, ◌+◌, ◌<◌, ◌≤◌, cond, ltb, List, [], ◌∷◌, ◌++◌, length, get_or, take, drop, Ok, Err, Result, sym, refl, ap, ◌∙◌, append_assoc, append-nil, arith}
 use Rattle.std.proofs.lemmas.List.{length-append, length-take, drop_at, take_at, take_more}
 use Rattle.std.proofs.lemmas.Bool.{lt-ltb, le-ltb, cond-true, cond-false}
 use Rattle.numbers.specs.Numbers.{coded}
 use Rattle.numbers.proofs.Groups.{Bytes}
 use Rattle.numbers.proofs.Laid.{past}
-use Rattle.records.specs.declared.types.Head.{Head}
-use Rattle.records.specs.declared.types.Record.{Record}
-use Rattle.records.specs.declared.types.Record.TheVariants.{Task, Edge, End}
+use Rattle.records.specs.declared.read.Records.{Records}
 use Rattle.records.specs.Fields.{and_then, map_err}
 use Rattle.records.specs.Heads.{head_bytes, Few, Opens}
-use Rattle.records.specs.Records.{task, seen, task_bytes, Holds}
+use Rattle.records.specs.Records.{task, task_bytes, Holds}
 use Rattle.graphs.specs.declared.types.Task.{Task as TaskOf}
 use Rattle.graphs.specs.declared.fault.GraphFault.{GraphFault}
 use Rattle.graphs.specs.declared.fault.NameFault.{NameFault}
@@ -103,24 +101,24 @@ known file p w e = let a = accepted file p w e in (a.0, a.1.limited)
 pub head_known : (file : List ℕ) (p : Parts) → Bytes file → graph_of file ≡ Ok p → Opens file (head_in p)
 head_known file p w e = let k = known file p w e in opens file p k.1 k.0
 
--- the record of task t stands at `at`, and the next one after it
-abbrev pub Standing : List ℕ → Head → Parts → ℕ → ℕ → Type 0
-Standing file h p t at = Few h × Holds file h t at (task (name_in p t).1 (name_in p t).0 (get_or p.tasks t no_task).time (get_or p.tasks t no_task).size) (task_place p (t + 1))
+-- the next record of a file that is read is that of task t
+pub record Reached (r : Records) (file : List ℕ) (p : Parts) (t : ℕ) : Type 0 where
+  pub file_is : r.file.now ≡ file
+  pub head : r.head ≡ head_in p
+  pub read : r.read ≡ t
+  pub at : r.at ≡ task_place p t
 
--- where a walk over the tasks has come
-pub walked : (file : List ℕ) (p : Parts) (h : Head) (t at : ℕ) → Bytes file → graph_of file ≡ Ok p → h ≡ head_in p → at ≡ task_place p t → t < length p.tasks → Standing file h p t at
-walked file p h t at w e a b l =
+-- the record of task t stands there, and the next one after it
+abbrev pub Standing : Records → Parts → ℕ → Type 0
+Standing r p t = Few r.head × Holds r.file.now r.head r.read r.at (task (name_in p t).1 (name_in p t).0 (get_or p.tasks t no_task).time (get_or p.tasks t no_task).size) (task_place p (t + 1))
+
+pub reached : (r : Records) (file : List ℕ) (p : Parts) (t : ℕ) → Bytes file → graph_of file ≡ Ok p → Reached r file p t → t < length p.tasks → Standing r p t
+reached r file p t w e s l =
     let k = known file p w e in
-    subst (λ (x : ℕ). Standing file h p t x) (sym b) (subst (λ (x : Head). Standing file x p t (task_place p t)) (sym a) (k.1.few, at_task file p k.1 k.0 t l))
+    rw (s.file_is, s.head, s.read, s.at) (k.1.few, at_task file p k.1 k.0 t l)
 
 pub same_name : (a b : ℕ) (n m : List ℕ) (t z u v : ℕ) → task a n t z ≡ task b m u v → ◌≡◌ {A = List ℕ × ℕ} (n, a) (m, b)
 same_name a b n m t z u v e = let x : n ≡ m = cc in let y : a ≡ b = cc in ap (λ (k : List ℕ). (k, a)) x ∙ ap (λ (k : ℕ). (m, k)) y
-
--- a record that is seen as a task is one
-pub is_task : (r : Record) (a : ℕ) (n : List ℕ) (t z : ℕ) → seen r ≡ task a n t z → ((x : Bor (List ℕ)) (y u v : ℕ) → r ≡ Task x y u v → ⊥) → ⊥
-is_task (Task x y u v) a n t z e no_task_left = no_task_left x y u v refl
-is_task (Edge x y u) a n t z e no_task_left = let k : ◌≡◌ {A = ℕ} 0 1 = cc e in omega arith
-is_task End a n t z e no_task_left = let k : ◌≡◌ {A = ℕ} 0 1 = cc e in omega arith
 
 -- ---- what a name is where the file is refused, where there is no such task, and where there is
 

@@ -7,6 +7,7 @@ use Rattle.edges.specs.Edges.{no_edge}
 use Rattle.orders.specs.Orders.{stuck}
 use Rattle.orders.proofs.Ways.{find_in}
 use Rattle.numbers.proofs.Groups.{Bytes}
+use Rattle.records.specs.Faults.{counted}
 use Rattle.records.specs.declared.fault.RecordFault.{RecordFault}
 use Rattle.records.specs.declared.types.Head.{Head}
 use Rattle.records.specs.Heads.{Few, head_at, head_bytes}
@@ -78,7 +79,7 @@ repeated_in file a w e = elim (un_err (in_record 0 (head_at file)) _ (Repeated a
   | inr b ↦ elim (un_err (all_parts file b.0) uncycled (Repeated a) b.2) [
     | inl c ↦ (
         let h = b.0 in
-        let o = un_head file h w (un_map_err (λ f. InRecord f 0) (head_at file) h b.1) in
+        let o = un_head file h w (un_map_err (λ f. InRecord (counted 0 f)) (head_at file) h b.1) in
         told file w h o.few (h.tasks + h.edges) 0 h.next no_parts a (omega arith) (started file w h o.few o) c)
     | inr d ↦ absurd (not_cycle (lowest (stuck d.0.edges (length d.0.tasks)) (length d.0.tasks)) d.0 a d.2)
   ]

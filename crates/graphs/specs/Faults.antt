@@ -11,7 +11,7 @@ use Rattle.graphs.specs.declared.fault.NameFault.TheVariants.{InGraph, NoTask}
 
 -- want of memory is no fault of the file, and has no number of its own
 abbrev pub graph_tells : GraphFault → Fault
-graph_tells (InRecord fault count) = record_tells fault count
+graph_tells (InRecord c) = record_tells c.fault c.«record»
 graph_tells (Repeated place) = told 7 3 place 0
 graph_tells (Cycle task) = told 9 3 task 0
 graph_tells Memory = told 0 3 0 0

@@ -8,6 +8,7 @@ use Rattle.orders.specs.PairSets.{Repeats}
 use Rattle.orders.specs.Cycles.{Cyclic}
 use Rattle.records.specs.declared.fault.RecordFault.{RecordFault}
 use Rattle.records.specs.declared.types.Head.{Head}
+use Rattle.records.specs.Faults.{counted}
 use Rattle.records.specs.Fields.{and_then, map_err}
 use Rattle.records.specs.Heads.{head_at}
 use Rattle.records.specs.Records.{Item, task, edge, end, edge_bytes, record_at}
@@ -20,7 +21,7 @@ use Rattle.graphs.specs.Parts.{Parts, parts_over, no_parts, Limited, WellFormed,
 
 -- a fault of a record, with how many records were read before it
 abbrev pub in_record : {T : Type 0} → ℕ → Result T RecordFault → Result T GraphFault
-in_record read r = map_err (λ e. InRecord e read) r
+in_record read r = map_err (λ e. InRecord (counted read e)) r
 
 -- an edge joins the pair
 abbrev pub joined_in : List Edge → ℕ → ℕ → Bool

@@ -5,14 +5,14 @@ ghost use Rattle.graphs.specs.Faults.{graph_tells, name_tells, of_order};
 
 use faults::{Fault, Refusal};
 use orders::OrderFault;
-use records::fault::{Counted, RecordFault};
+use records::fault::Counted;
 use std::alloc::{AllocError, AllocFailed};
 
 // Why there is no graph.
-#[derive(Clone, Copy)]
+#[derive(Clone, Copy, PartialEq, Eq, Debug)]
 pub enum GraphFault {
-    // a fault of a record, and how many records were read before it
-    InRecord { fault: RecordFault, record: usize },
+    // a fault of a record
+    InRecord(Counted),
     // an edge joins the pair that an earlier edge joins
     Repeated { place: usize },
     // a task lies on a cycle of edges or after one
@@ -21,13 +21,10 @@ pub enum GraphFault {
 }
 
 impl From<Counted> for GraphFault {
-    ghost from_gives = { λ e r. r ≡ InRecord e.fault e.«record» };
+    ghost from_gives = { λ e r. r ≡ InRecord e };
 
     fn from(e: Counted) -> GraphFault {
-        GraphFault::InRecord {
-            fault: e.fault,
-            record: e.record,
-        }
+        GraphFault::InRecord(e)
     }
 }
 
@@ -63,7 +60,7 @@ impl Refusal for GraphFault {
 
     fn fault(&self) -> Fault {
         let (number, place) = match *self {
-            GraphFault::InRecord { fault, record } => return fault.counted(record as u64),
+            GraphFault::InRecord(counted) => return counted.fault(),
             GraphFault::Repeated { place } => (7, place),
             GraphFault::Cycle { task } => (9, task),
             GraphFault::Memory => (0, 0),
@@ -78,9 +75,9 @@ impl Refusal for GraphFault {
 }
 
 // Why a file has no name for a task: a fault of its graph, or there is no such task.
-#[derive(Clone, Copy)]
+#[derive(Clone, Copy, PartialEq, Eq, Debug)]
 pub enum NameFault {
-    InGraph { fault: GraphFault },
+    InGraph(GraphFault),
     NoTask { task: usize },
 }
 
@@ -88,7 +85,7 @@ impl From<GraphFault> for NameFault {
     ghost from_gives = { λ e r. r ≡ InGraph e };
 
     fn from(fault: GraphFault) -> NameFault {
-        NameFault::InGraph { fault }
+        NameFault::InGraph(fault)
     }
 }
 
@@ -97,7 +94,7 @@ impl Refusal for NameFault {
 
     fn fault(&self) -> Fault {
         match *self {
-            NameFault::InGraph { fault } => fault.fault(),
+            NameFault::InGraph(fault) => fault.fault(),
             NameFault::NoTask { task } => Fault {
                 number: 21,
                 layer: 5,

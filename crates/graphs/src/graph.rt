@@ -2,7 +2,6 @@ ghost use Rattle.std.specs.Prelude.{◌≡◌, ℕ, ◌^◌, ◌<◌, ◌≤◌,
 ghost use Rattle.edges.specs.Edges.{no_edge};
 ghost use Rattle.orders.specs.PairSets.{Repeats};
 ghost use Rattle.graphs.specs.Model.{no_task};
-ghost use Rattle.graphs.specs.declared.types.Name.{Name};
 
 use crate::types::{Name, Task};
 use edges::EdgeTable;
@@ -11,7 +10,8 @@ pub mod read;
 pub mod view;
 
 // A task graph within its limits: no pair of tasks is joined twice, and each edge goes forward in `order`.
-// `rank` has the place of each task in `order`.
+// `rank` has the place of each task in `order`. No code reads it: it stands as the proof that no way along the edges leads back.
+// The names stand beside the tasks and not in them: all readers but the sheet's want plain numbers, and a slice of these is lent.
 #[derive(Drop)]
 pub struct Graph {
     tasks: Vec<Task>,
@@ -25,7 +25,6 @@ pub struct Graph {
     ghost times: { (t : ℕ) → t < length (items tasks) → (1 ≤ (slice_index_or (items tasks) t no_task).time) × ((slice_index_or (items tasks) t no_task).time ≤ 2 ^ 20) },
     ghost sizes: { (t : ℕ) → t < length (items tasks) → (slice_index_or (items tasks) t no_task).size ≤ 2 ^ 24 },
     ghost amounts: { (k : ℕ) → k < length (items table.edges) → (slice_index_or (items table.edges) k no_edge).amount ≤ 2 ^ 20 },
-    ghost lengths: { (t : ℕ) (d : Name) → t < length (items names) → (1 ≤ (slice_index_or (items names) t d).len) × ((slice_index_or (items names) t d).len ≤ 31) },
     ghost single: { (j k : ℕ) → Repeats (items table.edges) j k → ⊥ },
     ghost placed: { (length (items order) ≡ length (items tasks)) × (length (items rank) ≡ length (items tasks)) },
     ghost ranked: { (t : ℕ) → t < length (items tasks) → (slice_index (items rank) t < length (items tasks)) × (slice_index (items order) (slice_index (items rank) t) ≡ t) },

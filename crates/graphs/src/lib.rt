@@ -12,3 +12,24 @@ pub use fault::{GraphFault, NameFault};
 pub use graph::Graph;
 pub use name::name_of;
 pub use types::{Name, Task};
+
+#[cfg(test)]
+mod tests {
+    use super::*;
+    use std::test::Fail;
+
+    // One task, of time 4 and size 30.
+    const FILE: &[u8] = b"\x01\x01\x00\x06ground\x04\x1e";
+
+    #[test]
+    fn clones_a_name(rt: HostRuntime) -> Result<(), Fail> {
+        let mut graph = Graph::new(rt.alloc());
+        graph.read(rt.alloc(), FILE)?;
+        assert_eq!(rt; graph.names().len(), 1);
+        for name in graph.names() {
+            let copy = name.clone()?;
+            assert_eq!(rt; copy.as_bytes(), b"ground".as_slice());
+        }
+        Ok(())
+    }
+}

@@ -6,7 +6,7 @@ ghost use Rattle.graphs.specs.Parts.{Parts};
 use crate::fault::{GraphFault, NameFault};
 use crate::graph::Graph;
 use records::fault::with_record;
-use records::read::{next_record, read_head};
+use records::read::{Records, read_head};
 use records::types::Record;
 use std::alloc::Global;
 
@@ -16,16 +16,14 @@ fn find_name<'a>(file: &'a [u8], task: usize) -> Result<(&'a [u8], usize), Graph
     ensures { (p : Parts) → graph_of file.now ≡ Ok p → part_seen result ≡ Ok (name_in p task) }
 {
     let head = with_record(read_head(file), 0)?;
-    let mut at = head.next;
-    for read in 0..task {
-        let (_, next) = next_record(file, head, read, at)?;
-        at = next;
+    let mut records = Records::new(file, head);
+    for _ in 0..task {
+        records.read_next()?;
     }
-    let (record, _) = next_record(file, head, task, at)?;
-    match record {
-        Record::Task { name, place, .. } => Ok((name, place)),
-        _ => unreachable(),
-    }
+    let Record::Task { name, place, .. } = records.read_next()? else {
+        unreachable()
+    };
+    Ok((name, place))
 }
 
 // The name of a task as a part of the file, and its offset there. The whole file is read first.

@@ -1,3 +1,4 @@
 pub mod Tests
+pub mod Finds
 pub mod Reaches
 pub mod Told

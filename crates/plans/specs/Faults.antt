@@ -7,7 +7,7 @@ use Rattle.plans.specs.declared.fault.PlanFault.TheVariants.{ShortTable, InRecor
 
 abbrev pub plan_tells : PlanFault → Fault
 plan_tells ShortTable = in_plan 1 512
-plan_tells (InRecord fault count) = record_tells fault count
+plan_tells (InRecord c) = record_tells c.fault c.«record»
 plan_tells (NotOfGraph place) = in_plan 10 place
 plan_tells (Parameter position) = in_plan 11 position
 plan_tells (TooLarge task) = in_plan 12 task

@@ -1,9 +1,11 @@
 -- A job: a task graph, a plan of it, the limits of the workers, and the link between them.
 use Rattle.std.specs.Prelude.{ℕ, List, slice_index_or}
 use Rattle.graphs.specs.Model.{TaskGraph}
+use Rattle.graphs.specs.Graphs.{model_of}
 use Rattle.links.specs.Links.{Arrives}
 use Rattle.plans.specs.declared.types.Row.{Row}
 use Rattle.plans.specs.declared.types.Limits.{Limits}
+use Rattle.plans.specs.declared.types.Plan.{Plan}
 
 pub record Job : Type 0 where
   pub graph : TaskGraph
@@ -34,3 +36,7 @@ no_limits = record { workers = 0; memory = 0 }
 -- where no link is asked, by the numbers of the limits
 abbrev pub unlinked : TaskGraph → List Row → ℕ → ℕ → Job
 unlinked g rows workers memory = job g rows (record { workers = workers; memory = memory }) (λ t a b m. t)
+
+-- what a plan says of its tasks, where neither limits nor a link are asked
+abbrev pub placing : Plan → Job
+placing p = unlinked (model_of p.graph.now) p.rows.now 0 0

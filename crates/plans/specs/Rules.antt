@@ -25,6 +25,10 @@ reaches j k =
     (end j (j.graph.from k))
     (j.arrives (end j (j.graph.from k)) (j.worker (j.graph.from k)) (j.worker (j.graph.to k)) (j.graph.amount k))
 
+-- when an amount from task a to task b is on the worker of b: at the end of a, or when the link says
+abbrev pub brings : Job → ℕ → ℕ → ℕ → ℕ
+brings j a b amount = cond (j.worker a == j.worker b) (end j a) (j.arrives (end j a) (j.worker a) (j.worker b) amount)
+
 -- when what edge k brings is on the worker of its target, where its source ends at tick e: then, or when the link says
 abbrev pub reaches_by : Job → ℕ → ℕ → ℕ
 reaches_by j k e =

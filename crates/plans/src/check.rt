@@ -4,9 +4,7 @@ ghost use Rattle.plans.specs.Jobs.{job};
 ghost use Rattle.plans.specs.Checked.{checked, Told, Accepts};
 
 use crate::fault::PlanFault;
-use crate::row_scans::{above_ceiling, latest_end, unplaced};
-use crate::rules::{late_input, overfull, overlapping};
-use crate::types::{Limits, Row};
+use crate::types::{Limits, Plan, Row};
 use graphs::Graph;
 use links::Link;
 
@@ -24,6 +22,7 @@ pub fn check<L: Link>(
     tell(graph, rows, limits, link)
 }
 
+// The answer; the further clauses of the public call follow from it.
 fn tell<L: Link>(graph: &Graph, rows: &[Row], limits: Limits, link: &L) -> Result<u64, PlanFault>
     ensures { Told (length rows.now) (job (model_of graph.now) rows.now limits (L.arrives link.now)) result }
 {
@@ -33,20 +32,21 @@ fn tell<L: Link>(graph: &Graph, rows: &[Row], limits: Limits, link: &L) -> Resul
     if let Some(position) = limits.outside() {
         return Err(PlanFault::Parameter { position });
     }
-    if let Some(task) = unplaced(graph, rows, limits.workers) {
+    let plan = Plan { graph, rows };
+    if let Some(task) = plan.unplaced(limits.workers) {
         return Err(PlanFault::NoWorker { task });
     }
-    if let Some(task) = above_ceiling(graph, rows) {
+    if let Some(task) = plan.above_ceiling() {
         return Err(PlanFault::AboveCeiling { task });
     }
-    if let Some(task) = overlapping(graph, rows) {
+    if let Some(task) = plan.overlapping() {
         return Err(PlanFault::Overlap { task });
     }
-    if let Some(worker) = overfull(graph, rows, limits) {
+    if let Some(worker) = plan.overfull(limits) {
         return Err(PlanFault::Overfull { worker });
     }
-    if let Some(edge) = late_input(graph, rows, link) {
+    if let Some(edge) = plan.late_input(link) {
         return Err(PlanFault::LateInput { edge });
     }
-    Ok(latest_end(graph, rows))
+    Ok(plan.latest_end())
 }

@@ -3,18 +3,18 @@ ghost use Rattle.plans.specs.declared.fault.PlanFault.TheVariants.{InRecord};
 ghost use Rattle.plans.specs.Faults.{plan_tells};
 
 use faults::{Fault, Refusal};
-use records::fault::{Counted, RecordFault};
+use records::fault::Counted;
 
 // Why there is no plan, or why a plan is refused.
-#[derive(Clone, Copy)]
+#[derive(Clone, Copy, PartialEq, Eq, Debug)]
 pub enum PlanFault {
     // a table has fewer than 512 rows
     ShortTable,
     // a fault of a plan file's record
-    InRecord { fault: RecordFault, record: usize },
+    InRecord(Counted),
     // a plan file's task count or length is not that of the graph and its rows
     NotOfGraph { place: usize },
-    // a parameter is outside its limits
+    // a parameter is outside its limits; by a rule of the project its position is what the refusal tells
     Parameter { position: usize },
     // a task alone exceeds the memory
     TooLarge { task: usize },
@@ -33,13 +33,10 @@ pub enum PlanFault {
 }
 
 impl From<Counted> for PlanFault {
-    ghost from_gives = { λ e r. r ≡ InRecord e.fault e.«record» };
+    ghost from_gives = { λ e r. r ≡ InRecord e };
 
     fn from(e: Counted) -> PlanFault {
-        PlanFault::InRecord {
-            fault: e.fault,
-            record: e.record,
-        }
+        PlanFault::InRecord(e)
     }
 }
 
@@ -48,7 +45,7 @@ impl Refusal for PlanFault {
 
     fn fault(&self) -> Fault {
         let (number, place) = match *self {
-            PlanFault::InRecord { fault, record } => return fault.counted(record as u64),
+            PlanFault::InRecord(counted) => return counted.fault(),
             PlanFault::ShortTable => (1, 512),
             PlanFault::NotOfGraph { place } => (10, place as u64),
             PlanFault::Parameter { position } => (11, position as u64),

@@ -4,10 +4,9 @@
 pub mod check;
 pub mod fault;
 pub mod row_scans;
-mod rows;
+pub mod rows;
 mod rules;
 pub mod types;
 
 pub use fault::PlanFault;
-pub use row_scans::{above_ceiling, latest_end, unplaced};
-pub use types::{Limits, Row};
+pub use types::{Limits, Plan, Row};

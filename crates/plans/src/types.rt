@@ -1,15 +1,24 @@
 ghost use Rattle.std.specs.Prelude.{◌≡◌};
 ghost use Rattle.plans.specs.Checked.{bad_limit};
 
+use graphs::Graph;
+
 // The worker of a task, and the tick that it starts at. Any numbers may stand here: the check judges them.
-#[derive(Clone, Copy)]
+#[derive(Clone, Copy, PartialEq, Eq, Debug, Default)]
 pub struct Row {
     pub worker: usize,
     pub start: u64,
 }
 
-// How many workers there are, and the memory of each.
+// A graph and the rows of its tasks, one for each: a plan, whatever the rows are.
 #[derive(Clone, Copy)]
+pub struct Plan<'a> {
+    pub graph: &'a Graph,
+    pub rows: &'a [Row],
+}
+
+// How many workers there are, and the memory of each. The link stands apart: it is lent and of any type, and half of the calls need only one of both.
+#[derive(Clone, Copy, PartialEq, Eq, Debug)]
 pub struct Limits {
     pub workers: usize,
     pub memory: u64,

@@ -2,12 +2,12 @@ ghost use Rattle.std.specs.Prelude.{◌≡◌, ℕ, ◌<◌, ◌≤◌, map, len
 ghost use Rattle.edges.specs.Tables.{listed};
 ghost use Rattle.orders.specs.Orders.{Ordered};
 ghost use Rattle.graphs.specs.declared.fault.GraphFault.TheVariants.{Repeated, Cycle};
-ghost use Rattle.graphs.specs.Drafts.{drafted, Tidy};
+ghost use Rattle.graphs.specs.Drafts.{drafted};
 ghost use Rattle.graphs.specs.Files.{uncycled, graph_of, Denies, Read, Lawful, RepeatedIn, CycleIn};
 ghost use Rattle.graphs.specs.Graphs.{spelled, parts_of};
 ghost use Rattle.graphs.specs.Parts.{parts_over, no_parts, Limited};
 
-use crate::draft::{Draft, read_parts};
+use crate::draft::Draft;
 use crate::fault::GraphFault;
 use crate::graph::Graph;
 use crate::types::{Name, Task};
@@ -20,7 +20,6 @@ use std::alloc::Global;
 // The graph of these parts, whose tasks are in order.
 fn assemble(tasks: Vec<Task>, names: Vec<Name>, table: EdgeTable, found: Order) -> Graph
     requires limited { Limited (parts_over (items tasks) (map spelled (items names)) (listed table)) }
-    requires short { (t : ℕ) (n : Name) → t < length (items names) → (slice_index_or (items names) t n).len ≤ 31 }
     requires joined { table.tasks ≡ length (items tasks) }
     requires ordered { Ordered (listed table) (length (items tasks)) (items found.rank) (items found.order) }
     ensures { parts_of result ≡ parts_over (items tasks) (map spelled (items names)) (listed table) }
@@ -37,8 +36,7 @@ fn assemble(tasks: Vec<Task>, names: Vec<Name>, table: EdgeTable, found: Order) 
 
 // The graph of parts within their limits; refused where they have a cycle.
 fn build(heap: Global, draft: Draft) -> Result<Graph, GraphFault>
-    requires limited { Limited (drafted draft) }
-    requires tidy { Tidy draft }
+    requires { Limited (drafted draft) }
     ensures { MatchResult result (λ g. uncycled (drafted draft) ≡ Ok (parts_of g)) (Denies (uncycled (drafted draft))) }
 {
     let Draft {
@@ -47,6 +45,7 @@ fn build(heap: Global, draft: Draft) -> Result<Graph, GraphFault>
         edges,
         pairs: _,
     } = draft;
+    // no `From`: only this call knows that no end can be missing
     let table = match EdgeTable::new(heap, tasks.len(), edges) {
         Ok(table) => table,
         Err(TableFault::Memory) => return Err(GraphFault::Memory),
@@ -60,7 +59,7 @@ fn read_graph(heap: Global, file: &[u8]) -> Result<Graph, GraphFault>
     ensures { MatchResult result (λ g. graph_of file.now ≡ Ok (parts_of g)) (Denies (graph_of file.now)) }
 {
     let head = with_record(read_head(file), 0)?;
-    let draft = read_parts(heap, file, head)?;
+    let draft = Draft::read(heap, file, head)?;
     build(heap, draft)
 }
 

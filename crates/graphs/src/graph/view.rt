@@ -7,18 +7,14 @@ use crate::graph::Graph;
 use crate::types::{Name, Task};
 use edges::Edge;
 
-// The task t, or one of no time and no size.
-fn task_or_none(tasks: &[Task], t: usize) -> Task
-    ensures { result ≡ slice_index_or tasks.now t no_task }
-{
-    if t < tasks.len() {
-        tasks[t]
-    } else {
-        Task { time: 0, size: 0 }
-    }
-}
-
 impl Graph {
+    // The task t, or one of no time and no size.
+    fn task(&self, t: usize) -> Task
+        ensures { result ≡ slice_index_or (tasks_of self.now) t no_task }
+    {
+        self.tasks.get(t).copied().unwrap_or_default()
+    }
+
     // The tasks, in the order of the file. What holds of every graph holds of this one.
     pub fn tasks(&self) -> &[Task]
         ensures is { result.now ≡ tasks_of self.now }
@@ -32,7 +28,7 @@ impl Graph {
         ensures is { result ≡ (model_of self.now).time t }
         ensures low { result ≤ 2 ^ 20 }
     {
-        task_or_none(&self.tasks, t).time
+        self.task(t).time
     }
 
     // The size of t; 0 where there is no such task.
@@ -40,7 +36,7 @@ impl Graph {
         ensures is { result ≡ (model_of self.now).size t }
         ensures low { result ≤ 2 ^ 24 }
     {
-        task_or_none(&self.tasks, t).size
+        self.task(t).size
     }
 
     // The names of the tasks, one for each.

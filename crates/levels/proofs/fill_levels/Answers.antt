@@ -1,48 +1,27 @@
-use Rattle.std.proofs.Common.{◌≡◌, ℕ, ◌^◌, ◌<◌, length, get_or, replicate, sym, refl, ap, subst, inl, inr, arith, rules}
-use Rattle.std.proofs.lemmas.List.{get_or_past, get_or-replicate, length-replicate}
-use Rattle.std.proofs.lemmas.Bool.{cases_lt, le-leb, lt-leb, true≢false, false≢true}
-use Rattle.graphs.specs.Graphs.{tasks_of, model_of}
+use Rattle.std.proofs.Common.{ℕ, ◌^◌, ◌<◌, get_or, sym, subst}
+use Rattle.graphs.specs.Graphs.{model_of}
 use Rattle.graphs.proofs.Sound.{sound}
 use Rattle.levels.proofs.Levels.{levels_are_unique, level_at_low, levels_by, longest_by}
 use Rattle.levels.proofs.fill_levels.Goals as goal
 
-zeros : (n k : ℕ) → ◌≡◌ {A = ℕ} (get_or (replicate n 0) k 0) 0
-zeros n k = elim (cases_lt k n) [
-  | inl l ↦ get_or-replicate n k 0 0 l
-  | inr ge ↦ get_or_past (replicate n 0) k 0 (simp length-replicate ge)
-]
+pub returns-then-levels-tasks-clause-unique : goal.returns-then-levels-tasks-clause-unique
+returns-then-levels-tasks-clause-unique g c = levels_are_unique
 
-pub returns-then-levels-tasks : goal.returns-then-levels-tasks
-returns-then-levels-tasks g c = record {
-  answers = sym (lt-leb (length (tasks_of c.args.graph.now)) (length c.args.levels.now) (omega (arith, ap length c.tasks.ensures.is, c.if-levels-tasks.true)));
-  kept = λ _. refl;
-  each = λ e. absurd (false≢true e);
-  low = λ e. absurd (false≢true e);
-  relation = λ e. absurd (false≢true e);
-  longest = λ e. absurd (false≢true e);
-  unique = levels_are_unique;
-}
+pub returns-clause-low : goal.returns-clause-low
+returns-clause-low g c = λ k.
+    subst (λ (n : ℕ). n < 2 ^ 62) (sym (c.visit.ensures k)) (level_at_low (g.L.Link.arrives c.args.link.now) (model_of c.args.graph.now) (g.met.L.Link.lawful c.args.link.now) (sound c.args.graph.now) k)
 
-pub visit-requires : goal.visit-requires
-visit-requires g c =
-    let filled = c.fill.ensures.after (λ y e. search rules) in
-    record {
-      rows = omega (arith, ap length c.tasks.ensures.is, c.if-levels-tasks.false, ap length filled, length-replicate {A = ℕ} (length c.args.levels.now) 0);
-      zero = λ k. rw filled (zeros (length c.args.levels.now) k);
-    }
-
-pub returns : goal.returns
-returns g c =
-    let model = model_of c.args.graph.now in
-    let a = g.L.Link.arrives c.args.link.now in
+pub returns-clause-relation : goal.returns-clause-relation
+returns-clause-relation g c =
     let ok = sound c.args.graph.now in
-    let is = levels_by a model ok.known ok.acyclic (λ k. get_or c.visit.new.levels k 0) c.visit.ensures in
-    record {
-      answers = sym (le-leb (length (tasks_of c.args.graph.now)) (length c.args.levels.now) (omega (arith, ap length c.tasks.ensures.is, c.if-levels-tasks.false)));
-      kept = λ e. absurd (true≢false e);
-      each = λ _. c.visit.ensures;
-      low = λ _ k. subst (λ (n : ℕ). n < 2 ^ 62) (sym (c.visit.ensures k)) (level_at_low a model (g.met.L.Link.lawful c.args.link.now) ok k);
-      relation = λ _. is;
-      longest = λ _. longest_by a model (λ k. get_or c.visit.new.levels k 0) is;
-      unique = levels_are_unique;
-    }
+    levels_by (g.L.Link.arrives c.args.link.now) (model_of c.args.graph.now) ok.known ok.acyclic (λ k. get_or c.visit.new.levels k 0) c.visit.ensures
+
+pub returns-clause-longest : goal.returns-clause-longest
+returns-clause-longest g c =
+    let ok = sound c.args.graph.now in
+    let a = g.L.Link.arrives c.args.link.now in
+    let level : ℕ → ℕ = λ k. get_or c.visit.new.levels k 0 in
+    longest_by a (model_of c.args.graph.now) level (levels_by a (model_of c.args.graph.now) ok.known ok.acyclic level c.visit.ensures)
+
+pub returns-clause-unique : goal.returns-clause-unique
+returns-clause-unique g c = levels_are_unique

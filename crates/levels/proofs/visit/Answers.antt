@@ -1,22 +1,21 @@
-use Rattle.std.proofs.Common.{◌-◌, length, ap, arith}
-use Rattle.levels.proofs.Visits.{visited_none, visited_more, visited_all}
+use Rattle.std.proofs.Common.{length, arith}
+use Rattle.std.specs.Iterator.Adapters.{rev_source}
+use Rattle.std.specs.Slice.Iter.{iter_rest}
+use Rattle.levels.proofs.Visits.{left_one_more, left_less, left_last, visited_more}
 use Rattle.levels.proofs.visit.Goals as goal
 
-pub loop-i-init : goal.loop-i-init
-loop-i-init g c =
-    visited_none (g.L.Link.arrives c.args.link.now) (g.met.L.Link.lawful c.args.link.now) c.args.graph.now _ c.args.levels.now
-    (omega (arith, ap length c.order-order.ensures, c.args.graph.now.placed.0)) c.requires.zero
-
-pub level_of-requires : goal.level_of-requires
-level_of-requires g c = record { rows = omega (arith, c.requires.rows, c.loop-i.auto.levels); low = c.loop-i.invariant.low }
-
-pub loop-i-preserved : goal.loop-i-preserved
-loop-i-preserved g c =
-    visited_more (g.L.Link.arrives c.args.link.now) (g.met.L.Link.lawful c.args.link.now) c.args.graph.now
-    c.order-order.result.now c.loop-i.levels c.loop-i.i (c.loop-i.i - 1) _ c.order-order.ensures
-    (omega arith) (omega (arith, c.loop-i.auto.i, ap length c.order-order.ensures, c.args.graph.now.placed.0)) (omega (arith, c.requires.rows, c.loop-i.auto.levels))
-    c.loop-i.invariant (omega (arith, c.level_of.ensures))
-
-pub returns : goal.returns
-returns g c =
-    visited_all (g.L.Link.arrives c.args.link.now) (g.met.L.Link.lawful c.args.link.now) c.args.graph.now c.loop-i.i c.loop-i.levels c.loop-i-test.false c.loop-i.invariant
+pub loop-t-preserved : goal.loop-t-preserved
+loop-t-preserved g c =
+    let graph = c.args.graph.now in
+    let was = iter_rest (rev_source c.loop-t.t-iterator) in
+    let rest = iter_rest (rev_source c.next.new.self) in
+    let t = c.in-Some.field-0.now in
+    let left = c.loop-t.invariant.2 in
+    let taken = c.in-Some.ensures.steps in (
+      tt,
+      tt,
+      left_less graph was rest t taken left,
+      visited_more (g.L.Link.arrives c.args.link.now) (g.met.L.Link.lawful c.args.link.now) graph c.loop-t.levels (length was) (length rest) t _
+          (left_last graph was rest t taken left) (left_one_more graph was rest t taken left)
+          (omega (arith, left_one_more graph was rest t taken left, left.few)) (omega (arith, c.requires.rows, c.loop-t.auto.levels)) c.loop-t.invariant.3 (omega (arith, c.level_of.ensures)),
+    )

@@ -24,8 +24,8 @@ returns-in_err-head c =
     let l = lost 0 c.read_head.result c.in_err-head.field-0.0 c.in_err-head.ensures in
     rw (p.1, p.2, l.1) (inr (head_fails c.args.file.now _ (sym c.read_head.ensures.is ∙ l.0)))
 
-pub read_parts-requires : goal.read_parts-requires
-read_parts-requires c = (opened c).few
+pub read-requires : goal.read-requires
+read-requires c = (opened c).few
 
 pub returns-in_err-draft : goal.returns-in_err-draft
 returns-in_err-draft c =
@@ -37,10 +37,9 @@ pub build-requires : goal.build-requires
 build-requires c =
     let bytes : Bytes c.args.file.now = λ i. omega (arith, c.type_inv.file i) in
     let o = opened (goal.at.build-requires c).In_ok-head in
-    let d = c.in_ok-draft.ensures in
-    record { limited = (parts_limited c.args.file.now bytes c.in_ok-head.head o.few (drafted c.in_ok-draft.draft) o d.0).1; tidy = d.1 }
+    (parts_limited c.args.file.now bytes c.in_ok-head.head o.few (drafted c.in_ok-draft.draft) o c.in_ok-draft.ensures).1
 
 pub returns : goal.returns
 returns c =
-    let t = after_head (goal.at.returns c).In_ok-head ∙ then_goes _ _ _ c.in_ok-draft.ensures.0 in
+    let t = after_head (goal.at.returns c).In_ok-head ∙ then_goes _ _ _ c.in_ok-draft.ensures in
     MatchResult-weaker c.build.result c.build.ensures (λ g e. t ∙ e) (λ d e. ⊎_elim inl (λ f. inr (t ∙ f)) e)
