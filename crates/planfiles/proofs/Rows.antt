@@ -1,6 +1,6 @@
 -- One turn of the reader of rows.
 use Rattle.std.proofs.Common.{◌≡◌, ℕ, zero, suc, ◌+◌, ◌-◌, ◌^◌, ◌<◌, ◌≤◌, ◌≢◌, List, [], ◌∷◌, ◌++◌, length, get_or, take, drop, set, replicate, IfOk, Ok, Err, Result, sym, refl, ap, ◌∙◌, subst, append_assoc, append-nil, arith, below_more}
-use Rattle.std.proofs.lemmas.List.{get_or-set_same, get_or-set_other, take_more_set, drop-set-lt, drop-replicate, drop-drop, take-append-drop, length-take-le}
+use Rattle.std.proofs.lemmas.List.{get_or-set_same, get_or-set_other, take_more_set, take_all, drop-replicate}
 use Rattle.records.specs.declared.fault.RecordFault.{RecordFault}
 use Rattle.records.specs.declared.fault.Counted.{Counted}
 use Rattle.records.specs.Faults.{counted_by}
@@ -8,7 +8,7 @@ use Rattle.records.specs.Fields.{and_then, map_ok, map_err}
 use Rattle.plans.specs.declared.types.Row.{Row}
 use Rattle.plans.specs.declared.fault.PlanFault.{PlanFault}
 use Rattle.plans.specs.Jobs.{no_row}
-use Rattle.planfiles.specs.Reading.{in_row, ahead, row_at, rows_at, padded, Filled}
+use Rattle.planfiles.specs.Reading.{in_row, ahead, row_at, rows_at, Filled}
 
 -- rows that stand before others
 abbrev before : List Row → Result (List Row × ℕ) PlanFault → Result (List Row × ℕ) PlanFault
@@ -22,15 +22,14 @@ before_none : (r : Result (List Row × ℕ) PlanFault) → r ≡ before [] r
 before_none (Ok q) = refl
 before_none (Err e) = refl
 
--- the first k of n rows are read, into a table of `size` rows that were all 0, and the next is at `at`
-pub record Turn (n : ℕ) (file : List ℕ) (workers from size : ℕ) (rows : List Row) (at k : ℕ) : Type 0 where
+-- the first k of n rows are read, and the next is at `at`
+pub record Turn (n : ℕ) (file : List ℕ) (workers from : ℕ) (rows : List Row) (at k : ℕ) : Type 0 where
   pub left : ℕ
   pub count : left + k ≡ n
   pub same : rows_at n file workers 0 from ≡ before (take k rows) (rows_at left file workers k at)
-  pub rest : drop k rows ≡ replicate (size - k) no_row
 
-pub begins : (n : ℕ) (file : List ℕ) (workers from : ℕ) (rows : List Row) → rows ≡ replicate (length rows) no_row → Turn n file workers from (length rows) rows from 0
-begins n file workers from rows z = record { left = n; count = omega arith; same = before_none _; rest = z ∙ ap (λ m. replicate m no_row) (omega arith) }
+pub begins : (n : ℕ) (file : List ℕ) (workers from : ℕ) (rows : List Row) → Turn n file workers from rows from 0
+begins n file workers from rows = record { left = n; count = omega arith; same = before_none _ }
 
 -- the next row, and those after it
 abbrev step : ℕ → List ℕ → ℕ → ℕ → Result (Row × ℕ) RecordFault → Result (List Row × ℕ) PlanFault
@@ -44,8 +43,8 @@ none_at : (left : ℕ) (file : List ℕ) (workers at k : ℕ) → left ≡ 0 →
 none_at zero file workers at k h = refl
 none_at (suc m) file workers at k h = absurd (omega arith)
 
-module _ {n : ℕ} {file : List ℕ} {workers from size : ℕ} {rows : List Row} {at k : ℕ} (s : Turn n file workers from size rows at k) where
-  pub goes : (x : Row) (next : ℕ) → k < n → k < length rows → Ok (x, next) ≡ row_at file workers at → Turn n file workers from size (set rows k x) next (k + 1)
+module _ {n : ℕ} {file : List ℕ} {workers from : ℕ} {rows : List Row} {at k : ℕ} (s : Turn n file workers from rows at k) where
+  pub goes : (x : Row) (next : ℕ) → k < n → k < length rows → Ok (x, next) ≡ row_at file workers at → Turn n file workers from (set rows k x) next (k + 1)
   goes x next h l e =
       let m = more_at s.left file workers at k (omega (arith, s.count)) in
       let t : rows_at s.left file workers k at ≡ map_ok (ahead x) (rows_at m.0 file workers (k + 1) next) = m.2 ∙ ap (step m.0 file workers k) (sym e) in
@@ -53,20 +52,15 @@ module _ {n : ℕ} {file : List ℕ} {workers from size : ℕ} {rows : List Row}
         left = m.0;
         count = omega (arith, s.count, m.1);
         same = s.same ∙ ap (before (take k rows)) t ∙ before_ahead (take k rows) x _ ∙ ap (λ r. before r (rows_at m.0 file workers (k + 1) next)) (sym (take_more_set rows k x l));
-        rest = drop-set-lt (k + 1) rows k x (omega arith) ∙ sym (drop-drop 1 k rows) ∙ ap (drop 1) s.rest ∙ drop-replicate 1 (size - k) no_row ∙ ap (λ m. replicate m no_row) (omega arith);
       }
 
-  pub fails : (e : RecordFault) (r : Result ℕ PlanFault) → k < n → Err e ≡ row_at file workers at → r ≡ Err (in_row k e) → Filled size (rows_at n file workers 0 from) r rows
-  fails e r h p q =
-      let m = more_at s.left file workers at k (omega (arith, s.count)) in
-      let t : rows_at n file workers 0 from ≡ Err (in_row k e) = s.same ∙ ap (before (take k rows)) (m.2 ∙ ap (step m.0 file workers k) (sym p)) in
-      rw t q
-
-  pub ends : n ≤ k → k ≤ length rows → length rows ≡ size → Filled size (rows_at n file workers 0 from) (Ok at) rows
-  ends h l z =
+  -- all are read, in front of the later rows of a table that was all 0
+  pub ends : (was : List Row) → n ≤ k → length rows ≡ n → was ≡ replicate (length was) no_row → Filled (length was) (rows_at n file workers 0 from) (Ok at) (rows ++ drop n was)
+  ends was h l z =
       let t : rows_at n file workers 0 from ≡ Ok (take k rows ++ [], at) = s.same ∙ ap (before (take k rows)) (none_at s.left file workers at k (omega (arith, s.count))) in
-      let b : rows ≡ padded size (take k rows ++ []) = sym (take-append-drop k rows) ∙ ap (λ x. take k rows ++ x) s.rest ∙ rw (append-nil, length-take-le k rows l) in
-      rw t (refl, b)
+      let all : take k rows ++ [] ≡ rows = append-nil (take k rows) ∙ take_all k rows (omega arith) in
+      let later : drop n was ≡ replicate (length was - length rows) no_row = ap (drop n) z ∙ drop-replicate n (length was) no_row ∙ ap (λ m. replicate (length was - m) no_row) (sym l) in
+      rw t (refl, rw all (ap (λ x. rows ++ x) later))
 
 -- the starts of the rows that are read
 pub early_more : (rows : List Row) (k : ℕ) (x : Row) → k < length rows → x.start ≤ 2 ^ 40 → ((i : ℕ) → i < k → (get_or rows i no_row).start ≤ 2 ^ 40) → (i : ℕ) → i < k + 1 → (get_or (set rows k x) i no_row).start ≤ 2 ^ 40
@@ -85,7 +79,3 @@ module _ {T : Type 0} (k : ℕ) where
   pub got_at : (P : T → Type 0) (r : Result T RecordFault) (x : T) → Ok x ≡ counted_by k r → IfOk r P → P x
   got_at P (Ok y) x p m = let z : y ≡ x = cc p in subst P z m
   got_at P (Err d) x p m = absurd (let z : ◌≡◌ {A = ℕ} 0 1 = cc p in omega arith)
-
-  pub lost : (r s : Result T RecordFault) (d : Counted) → r ≡ s → Err d ≡ counted_by k r → (Err d.fault ≡ s) × (d.«record» ≡ k)
-  lost (Ok y) s d e p = absurd (let z : ◌≡◌ {A = ℕ} 0 1 = cc p in omega arith)
-  lost (Err f) s d e p = let z : d ≡ record { fault = f; «record» = k } = cc p in (ap (λ c. Err c.fault) z ∙ e, ap (λ c. c.«record») z)

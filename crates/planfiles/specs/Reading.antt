@@ -1,5 +1,6 @@
 -- What reading a plan file tells, and what it leaves in the table.
 use Rattle.std.specs.Prelude.{◌≡◌, ℕ, zero, suc, ◌+◌, ◌-◌, ◌^◌, ◌≤◌, cond, List, [], ◌∷◌, ◌++◌, length, replicate, IfOk, Ok, Err, Result, ◌==◌, nat_lt}
+use Rattle.records.specs.Faults.{counted}
 use Rattle.records.specs.declared.fault.RecordFault.{RecordFault}
 use Rattle.records.specs.declared.fault.RecordFault.TheVariants.{Trailing}
 use Rattle.records.specs.Fields.{and_then, map_ok, map_err, field_at}
@@ -30,7 +31,7 @@ pub record Accepts (g : TaskGraph) (file : List ℕ) (was now : List Row) (r : R
 
 -- a fault of a number, where so many rows were read before
 abbrev pub in_row : ℕ → RecordFault → PlanFault
-in_row count e = InRecord e count
+in_row count e = InRecord (counted count e)
 
 abbrev pub row_of : ℕ → ℕ → Row
 row_of worker start = record { worker = worker; start = start }

@@ -4,21 +4,13 @@ ghost use Rattle.plans.specs.Jobs.{no_row};
 ghost use Rattle.planfiles.specs.Plans.{Few, plan_file};
 ghost use Rattle.planfiles.specs.Reading.{row_at, rows_at, head_at, plan_at, answered, filled, Filled, Loaded, Accepts};
 
-use crate::head::{Head, KIND};
+use crate::head::{Head, KIND, MOST_WORKERS};
 use graphs::Graph;
 use links::CEILING;
-use plans::{PlanFault, Row, latest_end};
-use records::fault::{RecordFault, with_record};
+use plans::{Plan, PlanFault, Row};
+use records::fault::{Counted, RecordFault, with_record};
 use records::field::read_field;
-
-const MOST_TASKS: u64 = 512;
-
-const MOST_WORKERS: u64 = 16;
-
-const EMPTY: Row = Row {
-    worker: 0,
-    start: 0,
-};
+use records::types::MOST_TASKS;
 
 fn read_row(file: &[u8], at: usize, workers: usize) -> Result<(Row, usize), RecordFault>
     requires { Few workers }
@@ -41,11 +33,11 @@ fn read_head(file: &[u8], tasks: usize) -> Result<Head, PlanFault>
     ensures few { IfOk result (λ h. Few h.workers) }
 {
     let (_, counted) = with_record(read_field(file, 0, KIND, KIND), 0)?;
-    let (count, next) = with_record(read_field(file, counted, 0, MOST_TASKS), 0)?;
+    let (count, next) = with_record(read_field(file, counted, 0, MOST_TASKS as u64), 0)?;
     if count != tasks as u64 {
         return Err(PlanFault::NotOfGraph { place: counted });
     }
-    let (workers, place) = with_record(read_field(file, next, 1, MOST_WORKERS), 0)?;
+    let (workers, place) = with_record(read_field(file, next, 1, MOST_WORKERS as u64), 0)?;
     let (ticks, next) = with_record(read_field(file, place, 0, CEILING), 0)?;
     Ok(Head {
         workers: workers as usize,
@@ -63,9 +55,9 @@ fn read_rows(file: &[u8], head: Head, tasks: usize, rows: &mut [Row]) -> Result<
     ensures early { OnOk result ((k : ℕ) → k < tasks → (slice_index_or rows.new k no_row).start ≤ 2 ^ 40) }
 {
     let mut at = head.next;
-    for k in 0..tasks {
-        let (row, next) = with_record(read_row(file, at, head.workers), k)?;
-        rows[k] = row;
+    for (k, row) in rows[..tasks].iter_mut().enumerate() {
+        let (read, next) = with_record(read_row(file, at, head.workers), k)?;
+        *row = read;
         at = next;
     }
     Ok(at)
@@ -81,12 +73,12 @@ fn read_into(file: &[u8], graph: &Graph, rows: &mut [Row]) -> Result<(usize, u64
     let head = read_head(file, tasks)?;
     let end = read_rows(file, head, tasks, rows)?;
     if end < file.len() {
-        return Err(PlanFault::InRecord {
+        return Err(PlanFault::InRecord(Counted {
             fault: RecordFault::Trailing { place: end },
             record: tasks,
-        });
+        }));
     }
-    if head.ticks != latest_end(graph, rows) {
+    if head.ticks != (Plan { graph, rows }).latest_end() {
         return Err(PlanFault::NotOfGraph { place: head.place });
     }
     Ok((head.workers, head.ticks))
@@ -104,17 +96,19 @@ pub fn read_plan(file: &[u8], graph: &Graph, rows: &mut [Row]) -> Result<(usize,
     load_plan(file, graph, rows)
 }
 
+// The answer; the further clauses of the public call follow from it.
 fn load_plan(file: &[u8], graph: &Graph, rows: &mut [Row]) -> Result<(usize, u64), PlanFault>
     ensures is { result ≡ answered (length rows.old) (model_of graph.now) file.now }
     ensures rows { rows.new ≡ filled rows.old (model_of graph.now) file.now }
 {
-    if rows.len() < 512 {
+    if rows.len() < MOST_TASKS {
         return Err(PlanFault::ShortTable);
     }
-    rows.fill(EMPTY);
+    rows.fill(Row::default());
     let answer = read_into(file, graph, rows);
+    // `?` would leave before the rows are cleared
     if answer.is_err() {
-        rows.fill(EMPTY);
+        rows.fill(Row::default());
     }
     answer
 }

@@ -1,18 +1,16 @@
 -- The line of those that pass: one more joins it, and its first wins the scan.
-use Rattle.std.proofs.Common.{◌≡◌, ℕ, zero, suc, ◌+◌, ◌<◌, ◌≤◌, Bool, true, false, cond, ltb, List, [], ◌∷◌, length, Some, None, Option, sym, refl, ap, ◌∙◌, subst, inl, inr, add-one, arith, rules}
+use Rattle.std.proofs.Common.{◌≡◌, ℕ, zero, suc, ◌+◌, ◌<◌, ◌≤◌, Bool, true, false, cond, ltb, List, [], ◌∷◌, length, Some, None, Option, sym, refl, ap, ◌∙◌, subst, inl, inr, add-one, arith}
 use Rattle.std.proofs.lemmas.Bool.{cases_eq, cases_Bool, both_ways}
 use Rattle.std.proofs.lemmas.Bool.Decides.{nat_tests}
 use Rattle.heaps.specs.declared.entries.Ready.{Ready}
 use Rattle.heaps.specs.Entries.{sooner}
-use Rattle.heaps.specs.Orders.{TotalOrder, insert}
+use Rattle.heaps.specs.Keys.{sooner_total}
+use Rattle.heaps.specs.Orders.{insert}
 use Rattle.heaps.proofs.Inserts.{commute}
 use Rattle.scans.specs.Bids.{outbids, best_bid, bidder, bids, bid_of, best}
 use Rattle.scans.specs.declared.Bid.{Bid}
 use Rattle.scans.specs.declared.Aim.TheVariants.{Largest}
 use Rattle.planner.specs.Queues.{entry, line}
-
-pub sooner_total : TotalOrder sooner
-sooner_total = search rules
 
 pub line_more : (p : ℕ → Bool) (key : ℕ → ℕ) (n : ℕ) → line p key (n + 1) ≡ cond (p n) (insert sooner (entry key n) (line p key n)) (line p key n)
 line_more p key n = rw add-one

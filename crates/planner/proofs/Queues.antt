@@ -4,9 +4,8 @@ use Rattle.std.proofs.lemmas.List.{get_or-set_same, get_or-set_other}
 use Rattle.std.proofs.lemmas.Bool.{cases_eq, cases_Bool, both_ways, eqb-true, eq-eqb, ne_eqb, and_parts, and_right, or_cases, or_from, not-true, not_from_true, lt-ltb, le-ltb}
 use Rattle.std.proofs.lemmas.Bool.Decides.{nat_tests}
 use Rattle.heaps.specs.declared.entries.Ready.{Ready}
-use Rattle.heaps.specs.declared.heap.Heap.{Heap}
 use Rattle.heaps.specs.Entries.{sooner}
-use Rattle.heaps.specs.Heaps.{room, entries, Kept, queue, Pushed, Gave}
+use Rattle.heaps.specs.Heaps.{ReadyHeap, room, entries, queue, Pushed, Gave}
 use Rattle.heaps.specs.Orders.{insert}
 use Rattle.heaps.proofs.Inserts.{length_ordered}
 use Rattle.scans.specs.Scans.{every}
@@ -20,24 +19,24 @@ use Rattle.planner.specs.Queues.{entry, line, apart_from, Waiting}
 use Rattle.planner.proofs.Choices.{wins}
 use Rattle.scans.specs.Bids.{best}
 use Rattle.scans.specs.declared.Aim.TheVariants.{Largest}
-use Rattle.planner.proofs.Lines.{sooner_total, line_same, line_put, line_best, line_empty, line_key, take_off, line_short, line_none}
+use Rattle.heaps.specs.Keys.{sooner_total}
+use Rattle.planner.proofs.Lines.{line_same, line_put, line_best, line_empty, line_key, take_off, line_short, line_none}
 
 -- ---- pushes
 
-pub waiting_none : (p : ℕ → Bool) (key : ℕ → ℕ) (n : ℕ) (h : Heap Ready) → ((v : ℕ) → p v ≡ false) → Kept sooner h → n ≤ room h → queue sooner h ≡ [] → Waiting p key n h
-waiting_none p key n h e kept roomy empty = record { kept = kept; roomy = roomy; holds = empty ∙ sym (line_none p key n e) }
+pub waiting_none : (p : ℕ → Bool) (key : ℕ → ℕ) (n : ℕ) (h : ReadyHeap) → ((v : ℕ) → p v ≡ false) → n ≤ room h → queue h ≡ [] → Waiting p key n h
+waiting_none p key n h e roomy empty = record { roomy = roomy; holds = empty ∙ sym (line_none p key n e) }
 
-pub waiting_same : (p q : ℕ → Bool) (key other : ℕ → ℕ) (n : ℕ) (h : Heap Ready) → ((v : ℕ) → v < n → p v ≡ q v) → ((v : ℕ) → v < n → p v ≡ true → key v ≡ other v) → Waiting p key n h → Waiting q other n h
-waiting_same p q key other n h e k was = record { kept = was.kept; roomy = was.roomy; holds = was.holds ∙ line_same p q key other n e k }
+pub waiting_same : (p q : ℕ → Bool) (key other : ℕ → ℕ) (n : ℕ) (h : ReadyHeap) → ((v : ℕ) → v < n → p v ≡ q v) → ((v : ℕ) → v < n → p v ≡ true → key v ≡ other v) → Waiting p key n h → Waiting q other n h
+waiting_same p q key other n h e k was = record { roomy = was.roomy; holds = was.holds ∙ line_same p q key other n e k }
 
 -- where one is lacking there is room
-pub waiting_room : (p : ℕ → Bool) (key : ℕ → ℕ) (n : ℕ) (h : Heap Ready) (u : ℕ) → u < n → p u ≡ false → Waiting p key n h → h.len < room h
+pub waiting_room : (p : ℕ → Bool) (key : ℕ → ℕ) (n : ℕ) (h : ReadyHeap) (u : ℕ) → u < n → p u ≡ false → Waiting p key n h → h.len < room h
 waiting_room p key n h u l e was =
-    omega (arith, length_ordered sooner sooner_total (entries h), length-take h.len h.table.now, was.kept.0, ap length was.holds, line_short p key n u l e, was.roomy)
+    omega (arith, length_ordered sooner sooner_total (entries h), length-take h.len h.table.now, h.within, ap length was.holds, line_short p key n u l e, was.roomy)
 
-pub waiting_put : (p q : ℕ → Bool) (key : ℕ → ℕ) (n : ℕ) (h k : Heap Ready) (u : ℕ) → u < n → p u ≡ false → q u ≡ true → ((v : ℕ) → (v ≡ u → ⊥) → p v ≡ q v) → room k ≡ room h → Waiting p key n h → Pushed sooner h (entry key u) k → Waiting q key n k
+pub waiting_put : (p q : ℕ → Bool) (key : ℕ → ℕ) (n : ℕ) (h k : ReadyHeap) (u : ℕ) → u < n → p u ≡ false → q u ≡ true → ((v : ℕ) → (v ≡ u → ⊥) → p v ≡ q v) → room k ≡ room h → Waiting p key n h → Pushed h (entry key u) k → Waiting q key n k
 waiting_put p q key n h k u l np qu same long was put = record {
-  kept = put.kept;
   roomy = omega (arith, was.roomy);
   holds = put.queued ∙ ap (insert sooner (entry key u)) was.holds ∙ sym (line_put p q key n u l np qu same);
 }
@@ -125,20 +124,20 @@ module _ (g : TaskGraph) (s : Seats) (t : ℕ) (r : Row) (in_row : t < length s)
       simp same
 
 module _ (policy : ℕ) (arrives : Arrives) (g : TaskGraph) (s : Seats) where
-  abbrev pub Lined : Heap Ready → Type 0
+  abbrev pub Lined : ReadyHeap → Type 0
   Lined h = Waiting (ready g s) (rank policy arrives g s) g.tasks h
 
   -- an empty heap: none is next
-  pub line_ends : (h : Heap Ready) → queue sooner h ≡ [] → Lined h → next policy arrives g s ≡ None
+  pub line_ends : (h : ReadyHeap) → queue h ≡ [] → Lined h → next policy arrives g s ≡ None
   unfolding next
   line_ends h e was = line_empty (ready g s) (rank policy arrives g s) g.tasks (sym was.holds ∙ e)
 
-  module _ (h k : Heap Ready) (x : Ready) (was : Lined h) (gave : Gave sooner h x k) where
-    whole_line : line (ready g s) (rank policy arrives g s) g.tasks ≡ x ∷ queue sooner k
+  module _ (h k : ReadyHeap) (x : Ready) (was : Lined h) (gave : Gave h x k) where
+    whole_line : line (ready g s) (rank policy arrives g s) g.tasks ≡ x ∷ queue k
     whole_line = sym was.holds ∙ gave.queued
 
     wins_scan : best Largest (ready g s) (rank policy arrives g s) g.tasks ≡ Some x.task
-    wins_scan = line_best (ready g s) (rank policy arrives g s) g.tasks x (queue sooner k) whole_line
+    wins_scan = line_best (ready g s) (rank policy arrives g s) g.tasks x (queue k) whole_line
 
     pub line_next : next policy arrives g s ≡ Some x.task
     unfolding next
@@ -157,13 +156,12 @@ module _ (policy : ℕ) (arrives : Arrives) (g : TaskGraph) (s : Seats) where
         let t = x.task in
         let key = rank policy arrives g s in
         let p : ℕ → Bool = λ v. ready g s v && not (eqb v t) in
-        let same-t : entry key t ≡ x = ap (λ (n : ℕ). record { rank = n; task = t }) (sym (line_key (ready g s) key g.tasks x (queue sooner k) whole_line)) in
+        let same-t : entry key t ≡ x = ap (λ (n : ℕ). record { rank = n; task = t }) (sym (line_key (ready g s) key g.tasks x (queue k) whole_line)) in
         let t-eq : eqb t t ≡ true = eq-eqb t t refl in
         let put = line_put p (ready g s) key g.tasks t line_in.0 (and_right _ _ (not_from_true _ t-eq)) line_in.1 (λ v ne. let n = ne_eqb v t ne in simp n (and_true _)) in
-        let all : insert sooner x (line p key g.tasks) ≡ x ∷ queue sooner k = ap (λ (e : Ready). insert sooner e (line p key g.tasks)) (sym same-t) ∙ sym put ∙ whole_line in
-        let rest = take_off x (line p key g.tasks) (queue sooner k) all in
+        let all : insert sooner x (line p key g.tasks) ≡ x ∷ queue k = ap (λ (e : Ready). insert sooner e (line p key g.tasks)) (sym same-t) ∙ sym put ∙ whole_line in
+        let rest = take_off x (line p key g.tasks) (queue k) all in
         record {
-          kept = gave.kept;
           roomy = omega (arith, was.roomy);
           holds = rest ∙ line_same p (apart_from g (set s t (Some r)) t) key (rank policy arrives g (set s t (Some r))) g.tasks
               (λ v l. ready_now g s t r in_row free-t v) (λ v l y. rank_now g s t r in_row free-t policy arrives v (and_parts _ _ y).0);

@@ -17,12 +17,8 @@ pub ready_is : (ts : List Task) (es : List Edge) (s : Seats) (t : ℕ) → ready
 unfolding ready
 ready_is ts es s t = ap (λ (b : Bool). not (placed s t) && b) (every_kept (λ (e : Edge). eqb e.to t) (brought s) es no_edge)
 
-module _ (ts : List Task) (es xs : List Edge) (s : Seats) (t : ℕ) (is : xs ≡ into es t) where
-  pub ready_yes : placed s t ≡ false → every_in (brought s) xs ≡ true → true ≡ ready (model ts es) s t
-  ready_yes p y = let q : every_in (brought s) (into es t) ≡ true = rw is at y in sym (ready_is ts es s t ∙ simp (p, q))
-
-  pub ready_no : placed s t ≡ false → every_in (brought s) xs ≡ false → false ≡ ready (model ts es) s t
-  ready_no p n = let q : every_in (brought s) (into es t) ≡ false = rw is at n in sym (ready_is ts es s t ∙ simp (p, q))
+pub ready_unplaced : (ts : List Task) (es xs : List Edge) (s : Seats) (t : ℕ) (b : Bool) → xs ≡ into es t → placed s t ≡ false → b ≡ every_in (brought s) xs → b ≡ ready (model ts es) s t
+ready_unplaced ts es xs s t b is p e = e ∙ ap (every_in (brought s)) is ∙ sym (ready_is ts es s t ∙ simp p)
 
 pub ready_placed : (ts : List Task) (es : List Edge) (s : Seats) (t : ℕ) → placed s t ≡ true → false ≡ ready (model ts es) s t
 ready_placed ts es s t p = sym (ready_is ts es s t ∙ simp p)

@@ -3,9 +3,7 @@ use Rattle.std.proofs.Common.{◌≡◌, ℕ, ◌<◌, Bool, true, false, not, �
 use Rattle.std.proofs.lemmas.Bool.{and_from, lt-ltb, le-leb, not_from_false}
 use Rattle.graphs.specs.Model.{TaskGraph}
 use Rattle.heaps.specs.declared.entries.Ready.{Ready}
-use Rattle.heaps.specs.declared.heap.Heap.{Heap}
-use Rattle.heaps.specs.Entries.{sooner}
-use Rattle.heaps.specs.Heaps.{room, queue, Gave}
+use Rattle.heaps.specs.Heaps.{ReadyHeap, room, queue, Gave}
 use Rattle.links.specs.Links.{Arrives}
 use Rattle.plans.specs.declared.types.Row.{Row}
 use Rattle.plans.specs.declared.types.Limits.{Limits}
@@ -20,11 +18,11 @@ use Rattle.planner.proofs.Goods.{seated_is, good_more}
 use Rattle.planner.proofs.Afters.{ready_free}
 use Rattle.planner.proofs.Queues.{line_ends, line_next, line_in, line_left, waiting_same}
 
-module _ (limits : Limits) (policy : ℕ) (arrives : Arrives) (g : TaskGraph) (s : Seats) (h : Heap Ready) (go : Going limits policy arrives g s h) where
-  pub turn_ends : queue sooner h ≡ [] → turn limits policy arrives g s ≡ Ok s
+module _ (limits : Limits) (policy : ℕ) (arrives : Arrives) (g : TaskGraph) (s : Seats) (h : ReadyHeap) (go : Going limits policy arrives g s h) where
+  pub turn_ends : queue h ≡ [] → turn limits policy arrives g s ≡ Ok s
   turn_ends e = ap (place limits policy arrives g s) (line_ends policy arrives g s h e go.lined)
 
-  module _ (k : Heap Ready) (x : Ready) (gave : Gave sooner h x k) where
+  module _ (k : ReadyHeap) (x : Ready) (gave : Gave h x k) where
     is_next : next policy arrives g s ≡ Some x.task
     is_next = line_next policy arrives g s h k x go.lined gave
 
@@ -64,7 +62,7 @@ module _ (limits : Limits) (policy : ℕ) (arrives : Arrives) (g : TaskGraph) (s
           (λ v l. ap (λ (b : Bool). ready g (set s x.task (Some r)) v && not b) (sym (is v (omega (arith, go.few))))) (λ v l y. refl)
           (line_left policy arrives g s h k x go.lined gave r in_row is_free long)
 
-      pub going_on : (m : Heap Ready) → Waiting (ready g (set s x.task (Some r))) (rank policy arrives g (set s x.task (Some r))) g.tasks m → Going limits policy arrives g (set s x.task (Some r)) m
+      pub going_on : (m : ReadyHeap) → Waiting (ready g (set s x.task (Some r))) (rank policy arrives g (set s x.task (Some r))) g.tasks m → Going limits policy arrives g (set s x.task (Some r)) m
       going_on m lined = record {
         few = go.few;
         workers = go.workers;

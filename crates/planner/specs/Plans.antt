@@ -69,3 +69,8 @@ pub record Outcome (limits : Limits) (policy : ℕ) (arrives : Arrives) (g : Tas
   pub answered : r ≡ answer g (planned limits policy arrives g)
   pub rowed : Rows (planned limits policy arrives g) rows
   pub levelled : Levels arrives g (planned limits policy arrives g) levels
+
+-- the seats of a plan with its rows and levels, or the denial, which says nothing of them
+abbrev pub Made : Limits → ℕ → Arrives → TaskGraph → Result ℕ PlanFault → List Row → List ℕ → Type 0
+Made limits policy arrives g (Ok n) rows levels = Outcome limits policy arrives g (Ok n) rows levels
+Made limits policy arrives g (Err e) rows levels = planned limits policy arrives g ≡ Err e

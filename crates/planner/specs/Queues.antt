@@ -1,9 +1,8 @@
 -- The ready tasks as they wait in the heap: the higher rank first, then the lower number.
 use Rattle.std.specs.Prelude.{◌≡◌, ℕ, zero, suc, ◌^◌, ◌<◌, ◌≤◌, Bool, cond, not, ◌&&◌, List, [], length, slice_index}
 use Rattle.heaps.specs.declared.entries.Ready.{Ready}
-use Rattle.heaps.specs.declared.heap.Heap.{Heap}
 use Rattle.heaps.specs.Entries.{sooner}
-use Rattle.heaps.specs.Heaps.{room, Kept, queue}
+use Rattle.heaps.specs.Heaps.{ReadyHeap, room, queue}
 use Rattle.heaps.specs.Orders.{insert}
 use Rattle.graphs.specs.Model.{TaskGraph}
 use Rattle.levels.specs.Levels.{b_level_of}
@@ -24,10 +23,9 @@ abbrev pub apart_from : TaskGraph → Seats → ℕ → ℕ → Bool
 apart_from g s t v = ready g s v && not (follows g t v)
 
 -- the heap holds the numbers below n that pass, each with its key, and has room for all
-pub record Waiting (p : ℕ → Bool) (key : ℕ → ℕ) (n : ℕ) (h : Heap Ready) : Type 0 where
-  pub kept : Kept sooner h
+pub record Waiting (p : ℕ → Bool) (key : ℕ → ℕ) (n : ℕ) (h : ReadyHeap) : Type 0 where
   pub roomy : n ≤ room h
-  pub holds : queue sooner h ≡ line p key n
+  pub holds : queue h ≡ line p key n
 
 -- the table has the level of each task, and none is so great that a rank could overflow
 pub record Levelled (arrives : Arrives) (g : TaskGraph) (levels : List ℕ) : Type 0 where

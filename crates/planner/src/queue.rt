@@ -13,16 +13,8 @@ use steps::Desk;
 fn is_ready(desk: &Desk, t: usize) -> bool
     ensures { result ≡ ready_test (model_of desk.now.graph.now) desk.now.seats t }
 {
-    if desk.is_placed(t) {
-        return false;
-    }
     let inputs = desk.graph().inputs(t);
-    for e in inputs {
-        if !desk.is_placed(e.from) {
-            return false;
-        }
-    }
-    true
+    !desk.is_placed(t) && inputs.iter().all(|e| desk.is_placed(e.from))
 }
 
 // The rank of t by the policy.
@@ -51,11 +43,9 @@ pub(crate) fn admit<L: Link>(
     ensures { Waiting (ready_test (model_of desk.now.graph.now) desk.now.seats) (rank_of planner.now.policy (L.arrives planner.now.link.now) (model_of desk.now.graph.now) desk.now.seats) (model_of desk.now.graph.now).tasks queue.new }
 {
     let tasks = desk.graph().tasks().len();
+    // u numbers a task, and `marks` is only one of what it asks
     for u in 0..tasks {
-        if !marks[u] {
-            continue;
-        }
-        if is_ready(desk, u) {
+        if marks[u] && is_ready(desk, u) {
             let rank = rank(planner, desk, levels, u);
             let _ = queue.push(Ready { rank, task: u });
         }

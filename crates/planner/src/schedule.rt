@@ -1,8 +1,7 @@
 // Placing the tasks, the best ready one first.
 ghost use Rattle.std.specs.Prelude.{◌≡◌, ℕ, ◌^◌, ◌<◌, ◌≤◌, [], length, Ok, Err, MatchResult};
 ghost use Rattle.graphs.specs.Graphs.{model_of};
-ghost use Rattle.heaps.specs.Entries.{sooner};
-ghost use Rattle.heaps.specs.Heaps.{room, Kept, queue as queue_of};
+ghost use Rattle.heaps.specs.Heaps.{room, queue as queue_of};
 ghost use Rattle.steps.specs.Seats.{nobody};
 ghost use Rattle.planner.specs.Turns.{ready as ready_test, rank as rank_of, turn as turn_of, after as after_turns};
 ghost use Rattle.planner.specs.Queues.{Levelled, Waiting};
@@ -16,7 +15,8 @@ use plans::PlanFault;
 use steps::Desk;
 use steps::desk::ask::successors;
 
-// Places the first of the heap, if there is one.
+// Places the first of the heap, if there is one. Planner, desk, levels and heap go from function to function one by one: in one struct that keeps
+// the fact of the levels, the borrow checker covered neither its making, of references that live differently long, nor its methods.
 fn advance<L: Link>(
     planner: &Planner<L>,
     desk: &mut Desk,
@@ -31,18 +31,14 @@ fn advance<L: Link>(
         × Going planner.now.limits planner.now.policy (L.arrives planner.now.link.now) (model_of desk.old.graph.now) desk.new.seats queue.new)
         (λ e. turn_of planner.now.limits planner.now.policy (L.arrives planner.now.link.now) (model_of desk.old.graph.now) desk.old.seats ≡ Err e) }
 {
-    match queue.pop() {
-        None => Ok(()),
-        Some(first) => match desk.seat(planner.limits, planner.link, first.task) {
-            Err(fault) => Err(fault),
-            Ok(row) => {
-                let _ = desk.place(first.task, row);
-                let marks = successors(desk.graph(), first.task);
-                admit(planner, desk, levels, &marks, queue);
-                Ok(())
-            }
-        },
-    }
+    let Some(first) = queue.pop() else {
+        return Ok(());
+    };
+    let row = desk.seat(planner.limits, planner.link, first.task)?;
+    let _ = desk.place(first.task, row);
+    let marks = successors(desk.graph(), first.task);
+    admit(planner, desk, levels, &marks, queue);
+    Ok(())
 }
 
 // Places each task: the seats after as many turns as there are tasks, or the first denial.
@@ -56,7 +52,7 @@ pub(crate) fn schedule<L: Link>(
     requires limits { planner.now.limits.workers ≤ 16 }
     requires small { (t : ℕ) → t < (model_of desk.old.graph.now).tasks → (model_of desk.old.graph.now).size t ≤ planner.now.limits.memory }
     requires fresh { desk.old.seats ≡ nobody }
-    requires queue { Kept sooner queue.old × (queue_of sooner queue.old ≡ []) × (512 ≤ room queue.old) }
+    requires queue { (queue_of queue.old ≡ []) × (512 ≤ room queue.old) }
     ensures graph { desk.new.graph.now ≡ desk.old.graph.now }
     ensures after { MatchResult result
         (λ _. after_turns planner.now.limits planner.now.policy (L.arrives planner.now.link.now) (model_of desk.old.graph.now) (model_of desk.old.graph.now).tasks ≡ Ok desk.new.seats)
@@ -65,10 +61,8 @@ pub(crate) fn schedule<L: Link>(
     let everyone = [true; 512];
     admit(planner, desk, levels, &everyone, queue);
     let tasks = desk.graph().tasks().len();
-    for i in 0..tasks {
-        if let Err(fault) = advance(planner, desk, levels, queue) {
-            return Err(fault);
-        }
+    for turn in 0..tasks {
+        advance(planner, desk, levels, queue)?;
     }
     Ok(())
 }

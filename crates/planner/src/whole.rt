@@ -6,7 +6,7 @@ ghost use Rattle.plans.specs.declared.fault.PlanFault.TheVariants.{ShortTable};
 ghost use Rattle.plans.specs.Jobs.{job, no_row};
 ghost use Rattle.plans.specs.Rules.{Rules};
 ghost use Rattle.steps.specs.Seats.{at, end_of};
-ghost use Rattle.planner.specs.Plans.{row_of, enough as enough_rows, bad_parameter, too_large_task, planning, Outcome};
+ghost use Rattle.planner.specs.Plans.{row_of, enough as enough_rows, bad_parameter, too_large_task, planning, Outcome, Made};
 ghost use Rattle.planner.specs.Laws.{PlanLaws};
 
 use crate::schedule::schedule;
@@ -21,35 +21,12 @@ use steps::Desk;
 // Each table that is lent has 512 rows at least.
 const ROWS: usize = 512;
 
-fn row_or_none(desk: &Desk, t: usize) -> Row
-    ensures { result ≡ row_of (at desk.now.seats t) }
-{
-    match desk.row(t) {
-        Some(row) => row,
-        None => Row {
-            worker: 0,
-            start: 0,
-        },
-    }
-}
-
 // Writes the row of each task, and 0 where none is placed.
 fn write_rows(desk: &Desk, rows: &mut [Row])
     ensures { (k : ℕ) → k < length rows.new → slice_index_or rows.new k no_row ≡ row_of (at desk.now.seats k) }
 {
-    for k in 0..rows.len() {
-        rows[k] = row_or_none(desk, k);
-    }
-}
-
-fn clear(rows: &mut [Row])
-    ensures { (k : ℕ) → k < length rows.new → slice_index_or rows.new k no_row ≡ no_row }
-{
-    for k in 0..rows.len() {
-        rows[k] = Row {
-            worker: 0,
-            start: 0,
-        };
+    for (k, row) in rows.iter_mut().enumerate() {
+        *row = desk.row(k).unwrap_or_default();
     }
 }
 
@@ -57,12 +34,8 @@ fn clear(rows: &mut [Row])
 fn latest(desk: &Desk) -> u64
     ensures { result ≡ largest (end_of (model_of desk.now.graph.now) desk.now.seats) (model_of desk.now.graph.now).tasks }
 {
-    let mut last = 0;
     let tasks = desk.graph().tasks().len();
-    for t in 0..tasks {
-        last = desk.end(t).max(last);
-    }
-    last
+    (0..tasks).fold(0, |last: u64, t| desk.end(t).max(last))
 }
 
 fn are_enough(rows: usize, levels: usize, queue: usize) -> bool
@@ -76,30 +49,24 @@ impl<'a, L: Link> Planner<'a, L> {
     fn outside(&self) -> Option<usize>
         ensures { result ≡ bad_parameter self.now.limits self.now.policy }
     {
-        if let Some(position) = self.limits.outside() {
-            return Some(position);
-        }
-        if self.policy >= 1 && self.policy <= 2 {
+        let policy = if (1..=2).contains(&self.policy) {
             None
         } else {
             Some(3)
-        }
+        };
+        self.limits.outside().or(policy)
     }
 
     // The lowest task that alone exceeds the memory.
     fn too_large(&self, graph: &Graph) -> Option<usize>
         ensures { result ≡ too_large_task self.now.limits (model_of graph.now) }
     {
-        let tasks = graph.tasks().len();
-        for t in 0..tasks {
-            if graph.size(t) as u64 > self.limits.memory {
-                return Some(t);
-            }
-        }
-        None
+        let memory = self.limits.memory;
+        (0..graph.tasks().len()).find(|t| u64::from(graph.size(*t)) > memory)
     }
 
-    // Places the tasks once nothing is refused, and writes what comes of it.
+    // Places the tasks, once no parameter and no task is refused, and writes the rows and the levels of a plan. The tables go on one by one, as by a rule
+    // of the project each is lent.
     fn place_all(
         &self,
         graph: &Graph,
@@ -107,27 +74,24 @@ impl<'a, L: Link> Planner<'a, L> {
         levels: &mut [u64],
         queue: &mut [Ready],
     ) -> Result<u64, PlanFault>
-        requires tables { (512 ≤ length rows.old) × (512 ≤ length levels.old) × (512 ≤ length queue.old) }
-        requires parameters { bad_parameter self.now.limits self.now.policy ≡ None }
-        requires sizes { too_large_task self.now.limits (model_of graph.now) ≡ None }
-        ensures { Outcome self.now.limits self.now.policy (L.arrives self.now.link.now) (model_of graph.now) result rows.new levels.new }
+        requires { (512 ≤ length rows.old) × (512 ≤ length levels.old) × (512 ≤ length queue.old) }
+        ensures { Made self.now.limits self.now.policy (L.arrives self.now.link.now) (model_of graph.now) result rows.new levels.new }
     {
+        if let Some(position) = self.outside() {
+            return Err(PlanFault::Parameter { position });
+        }
+        if let Some(task) = self.too_large(graph) {
+            return Err(PlanFault::TooLarge { task });
+        }
         let _ = fill_levels(graph, self.link, levels);
         let mut desk = Desk::new(graph);
         let mut ready = Heap::over(queue);
-        match schedule(self, &mut desk, levels, &mut ready) {
-            Err(fault) => {
-                clear(rows);
-                levels.fill(0);
-                Err(fault)
-            }
-            Ok(()) => {
-                write_rows(&desk, rows);
-                Ok(latest(&desk))
-            }
-        }
+        schedule(self, &mut desk, levels, &mut ready)?;
+        write_rows(&desk, rows);
+        Ok(latest(&desk))
     }
 
+    // The same, and every row and level is 0 where the plan is denied.
     fn fill(
         &self,
         graph: &Graph,
@@ -138,17 +102,13 @@ impl<'a, L: Link> Planner<'a, L> {
         requires { (512 ≤ length rows.old) × (512 ≤ length levels.old) × (512 ≤ length queue.old) }
         ensures { Outcome self.now.limits self.now.policy (L.arrives self.now.link.now) (model_of graph.now) result rows.new levels.new }
     {
-        if let Some(position) = self.outside() {
-            clear(rows);
+        let answer = self.place_all(graph, rows, levels, queue);
+        // `?` would leave before the tables are cleared
+        if answer.is_err() {
+            rows.fill(Row::default());
             levels.fill(0);
-            return Err(PlanFault::Parameter { position });
         }
-        if let Some(task) = self.too_large(graph) {
-            clear(rows);
-            levels.fill(0);
-            return Err(PlanFault::TooLarge { task });
-        }
-        self.place_all(graph, rows, levels, queue)
+        answer
     }
 
     // Plans the graph: `rows` gets the plan and `levels` the b-levels, and the answer is the plan's length. The ready tasks wait in

@@ -9,7 +9,8 @@ use graphs::Graph;
 use heaps::Line;
 use links::Link;
 use plans::check::check;
-use plans::{Limits, PlanFault, Row};
+use plans::{Limits, Plan, PlanFault, Row};
+use records::types::MOST_TASKS;
 
 // Writes the sheet of a plan that passes the check, and answers how many bytes it has. The lines wait in a heap over
 // `lines`, which then has any content. Where it is denied, nothing is altered, `lines` neither.
@@ -30,6 +31,7 @@ pub fn sheet<L: Link>(
     write(graph, rows, limits, link, lines, out)
 }
 
+// The answer; the further clauses of the public call follow from it.
 fn write<L: Link>(
     graph: &Graph,
     rows: &[Row],
@@ -41,13 +43,14 @@ fn write<L: Link>(
     ensures table { Lent lines.old lines.new result }
     ensures written { Written (length rows.now) (length lines.old) (job (model_of graph.now) rows.now limits (L.arrives link.now)) (names_of graph.now) out.old out.new result }
 {
-    if lines.len() < 512 {
+    if lines.len() < MOST_TASKS {
         return Err(PlanFault::ShortTable);
     }
     check(graph, rows, limits, link)?;
-    let needed = sheet_len(graph, rows);
+    let plan = Plan { graph, rows };
+    let needed = sheet_len(&plan);
     if needed > out.len() {
         return Err(PlanFault::ShortBuffer { needed });
     }
-    Ok(put_sheet(out, graph, rows, lines))
+    Ok(put_sheet(out, &plan, lines))
 }

@@ -1,3 +1,4 @@
+pub mod Bidding
 pub mod Seats
 pub mod Places
 pub mod Steps

@@ -1,12 +1,14 @@
 -- What changes when one more task is placed.
-use Rattle.std.proofs.Common.{◌≡◌, ℕ, ◌+◌, ◌^◌, ◌<◌, ◌≤◌, max, Bool, true, false, cond, not, ◌||◌, eqb, ltb, List, length, get_or, set, is_some, Some, None, Decides, Option, sym, refl, ap, ◌∙◌, subst, inl, inr, arith}
+use Rattle.std.proofs.Common.{◌≡◌, ℕ, ◌+◌, ◌^◌, ◌<◌, ◌≤◌, max, Bool, true, false, cond, not, ◌||◌, eqb, ltb, List, length, replicate, set, is_some, Some, None, Decides, Option, sym, refl, ap, ◌∙◌, subst, inl, inr, arith}
 use Rattle.std.proofs.lemmas.List.{get_or-set_same, get_or-set_other, get_or-replicate, get_or_past, length-replicate}
 use Rattle.std.proofs.lemmas.Bool.{cases_lt, cases_eq, eq-eqb, ne_eqb, ltb-true, leb-true, lt-ltb, le-leb, and_parts, and_from, not-true, not_from_false}
 use Rattle.scans.proofs.Scans.{total_put, total_zero, largest_put, largest_under, some_put, some_none}
 use Rattle.graphs.specs.Model.{TaskGraph}
 use Rattle.plans.specs.declared.types.Row.{Row}
 use Rattle.steps.specs.Seats.{Seats, nobody, at, sits, sits_on, over, end_of, placed, placeable, put, Early, open_test, free, end_on, in_use, size_on}
+use Rattle.steps.specs.Lanes.{lane_at, free_in, used_in}
 use Rattle.steps.specs.Laws.{Placeable}
+use Rattle.steps.specs.declared.desk.Lane.{Lane}
 
 nobody_there : (o : Option Row) (v x : ℕ) → is_some o ≡ false → cond (sits o v) x 0 ≡ 0
 nobody_there None v x e = refl
@@ -68,35 +70,40 @@ module _ (g : TaskGraph) (s : Seats) (t : ℕ) (r : Row) (in_table : t < length 
     or_false true = refl
     or_false false = refl
 
-    -- a table with the entry of the row's worker written, where it has what placing adds there, and the others stay
-    table_more : {X : Type 0} (table : List X) (d x : X) (was will : ℕ → X) → length table ≡ 16 → r.worker < 16
-        → ((w : ℕ) → w < 16 → get_or table w d ≡ was w) → will r.worker ≡ x → ((w : ℕ) → eqb r.worker w ≡ false → will w ≡ was w)
-        → (w : ℕ) → w < 16 → get_or (set table r.worker x) w d ≡ will w
-    table_more table d x was will sized below kept here there w l = elim (cases_eq w r.worker) [
-      | inl e ↦ subst (λ (v : ℕ). get_or (set table r.worker x) v d ≡ will v) (sym e) (get_or-set_same table r.worker x d (omega arith) ∙ sym here)
-      | inr ne ↦ get_or-set_other table r.worker w x d ne ∙ kept w l ∙ sym (there w (ne_eqb r.worker w (λ q. ne (sym q))))
-    ]
+    -- what a table of lanes says once the lane of the row's worker is written: what placing adds there, and the others stay
+    module _ (lanes : List (Option Lane)) (lane : Option Lane) (sized : length lanes ≡ 16) (below : r.worker < 16) where
+      lane_more : {X : Type 0} (says : Option Lane → X) (was will : ℕ → X) → ((w : ℕ) → says (lane_at lanes w) ≡ was w) → will r.worker ≡ says lane → ((w : ℕ) → eqb r.worker w ≡ false → will w ≡ was w)
+          → (w : ℕ) → says (lane_at (set lanes r.worker lane) w) ≡ will w
+      lane_more says was will kept here there w = elim (cases_eq w r.worker) [
+        | inl e ↦ subst (λ (v : ℕ). says (lane_at (set lanes r.worker lane) v) ≡ will v) (sym e) (ap says (get_or-set_same lanes r.worker lane None (omega arith)) ∙ sym here)
+        | inr ne ↦ ap says (get_or-set_other lanes r.worker w lane None ne) ∙ kept w ∙ sym (there w (ne_eqb r.worker w (λ q. ne (sym q))))
+      ]
 
-    module _ (below : r.worker < 16) where
       self_eq : eqb r.worker r.worker ≡ true
       self_eq = eq-eqb _ _ refl
 
-      pub opens_more : (table : List Bool) → length table ≡ 16 → ((w : ℕ) → w < 16 → get_or table w false ≡ open_test g s w) → (w : ℕ) → w < 16 → get_or (set table r.worker true) w false ≡ open_test g (put s t r) w
-      opens_more table sized kept = table_more table false true (open_test g s) (open_test g (put s t r)) sized below kept
-          (open_more r.worker ∙ (let e = self_eq in simp e (or_true (open_test g s r.worker))))
+      pub opens_more : is_some lane ≡ true → ((w : ℕ) → is_some (lane_at lanes w) ≡ open_test g s w) → (w : ℕ) → is_some (lane_at (set lanes r.worker lane) w) ≡ open_test g (put s t r) w
+      opens_more is kept = lane_more is_some (open_test g s) (open_test g (put s t r)) kept
+          (open_more r.worker ∙ (let e = self_eq in simp e (or_true (open_test g s r.worker))) ∙ sym is)
           (λ w e. open_more w ∙ (simp e (or_false (open_test g s w))))
 
-      pub frees_more : (table : List ℕ) → length table ≡ 16 → ((w : ℕ) → w < 16 → get_or table w 0 ≡ free g s w) → (w : ℕ) → w < 16 → get_or (set table r.worker (max (get_or table r.worker 0) (r.start + g.time t))) w 0 ≡ free g (put s t r) w
-      frees_more table sized kept = table_more table 0 _ (free g s) (free g (put s t r)) sized below kept
-          (free_more r.worker ∙ (let e = self_eq in let k = kept r.worker below in simp (e, k)))
+      pub frees_more : free_in lane ≡ max (free g s r.worker) (r.start + g.time t) → ((w : ℕ) → free_in (lane_at lanes w) ≡ free g s w) → (w : ℕ) → free_in (lane_at (set lanes r.worker lane) w) ≡ free g (put s t r) w
+      frees_more is kept = lane_more free_in (free g s) (free g (put s t r)) kept
+          (free_more r.worker ∙ (let e = self_eq in simp (e, is)))
           (λ w e. free_more w ∙ (simp e (omega arith)))
 
-      pub uses_more : (table : List ℕ) → length table ≡ 16 → ((w : ℕ) → w < 16 → get_or table w 0 ≡ in_use g s w) → (w : ℕ) → w < 16 → get_or (set table r.worker (get_or table r.worker 0 + g.size t)) w 0 ≡ in_use g (put s t r) w
-      uses_more table sized kept = table_more table 0 _ (in_use g s) (in_use g (put s t r)) sized below kept
-          (in_use_more r.worker ∙ (let e = self_eq in let k = kept r.worker below in simp (e, k)))
+      pub uses_more : used_in lane ≡ in_use g s r.worker + g.size t → ((w : ℕ) → used_in (lane_at lanes w) ≡ in_use g s w) → (w : ℕ) → used_in (lane_at (set lanes r.worker lane) w) ≡ in_use g (put s t r) w
+      uses_more is kept = lane_more used_in (in_use g s) (in_use g (put s t r)) kept
+          (in_use_more r.worker ∙ (let e = self_eq in simp (e, is)))
           (λ w e. in_use_more w ∙ (simp e (omega arith)))
 
 -- where nobody is placed
+pub lane_none : (w : ℕ) → lane_at (replicate 16 None) w ≡ None
+lane_none w = elim (cases_lt w 16) [
+  | inl l ↦ get_or-replicate 16 w None None l
+  | inr g ↦ get_or_past (replicate 16 None) w None (omega (arith, length-replicate {A = Option Lane} 16 None))
+]
+
 nobody_at : (t : ℕ) → at nobody t ≡ None
 nobody_at t = elim (cases_lt t 512) [
   | inl l ↦ get_or-replicate 512 t None None l

@@ -1,24 +1,28 @@
 -- What the four steps choose.
-use Rattle.std.proofs.Common.{◌≡◌, ℕ, ◌+◌, ◌^◌, ◌<◌, ◌≤◌, Bool, true, false, not, ◌⊎◌, Some, None, Ok, Err, Option, Result, sym, refl, ap, ◌∙◌, subst, inl, inr}
-use Rattle.std.proofs.lemmas.Bool.{and_parts, not-true, not-false, le-leb, lt-leb, cond-true, cond-false}
+use Rattle.std.proofs.Common.{◌≡◌, ℕ, ◌<◌, ◌≤◌, Bool, true, false, not, ◌⊎◌, Some, None, Option, MatchOption, sym, refl, subst, inl, inr, arith}
+use Rattle.std.proofs.lemmas.Bool.{and_parts, not-true, not-false}
+use Rattle.scans.specs.Scans.{lowest}
 use Rattle.scans.specs.Bids.{Chosen, best}
 use Rattle.scans.specs.declared.Aim.{Aim}
 use Rattle.scans.specs.declared.Aim.TheVariants.{Smallest, Largest}
-use Rattle.scans.proofs.Scans.{lowest_all, lowest_found}
+use Rattle.scans.proofs.Scans.{lowest_all, lowest_found, lowest_none, lowest_is}
 use Rattle.scans.proofs.Bids.{best_is_chosen}
 use Rattle.graphs.specs.Model.{TaskGraph}
 use Rattle.links.specs.Links.{Arrives}
-use Rattle.plans.specs.declared.types.Row.{Row}
 use Rattle.plans.specs.declared.types.Limits.{Limits}
-use Rattle.plans.specs.declared.fault.PlanFault.{PlanFault}
-use Rattle.plans.specs.declared.fault.PlanFault.TheVariants.{NoneFits, TooLate}
-use Rattle.steps.specs.Seats.{Seats, open_test, fits, free, t_level_of, start_on_worker}
-use Rattle.steps.specs.Steps.{or_else, near_by, spent_by, near, spent, roomy, unopened, step1, step2, step3, step4, choice, seat_at, seat}
+use Rattle.steps.specs.Seats.{Seats, open_test, fits, free, start_on_worker}
+use Rattle.steps.specs.Steps.{or_else, near, spent, roomy, unopened, step1, step2, step3, step4, choice}
 use Rattle.steps.specs.Laws.{Unopened, InWords}
 
 or_split : (a b : Option ℕ) (w : ℕ) → or_else a b ≡ Some w → (a ≡ Some w) ⊎ (b ≡ Some w)
 or_split None b w e = inr e
 or_split (Some x) b w e = inl e
+
+-- the lowest that passes, by what a call of `find` answers
+pub lowest_from : (p : ℕ → Bool) (n : ℕ) (r : Option ℕ)
+    → MatchOption r ((k : ℕ) → 0 ≤ k → k < n → p k ≡ false) (λ i. (0 ≤ i) × (i < n) × (p i ≡ true) × ((k : ℕ) → 0 ≤ k → k < i → p k ≡ false)) → r ≡ lowest p n
+lowest_from p n None h = sym (lowest_none p n (λ k l. h k (omega arith) l))
+lowest_from p n (Some i) h = sym (lowest_is p n i h.1 (λ k l. h.3 k (omega arith) l) h.2)
 
 -- the winner of a scan is below n and passes
 won : (aim : Aim) (passes : ℕ → Bool) (key : ℕ → ℕ) (n w : ℕ) → best aim passes key n ≡ Some w → (w < n) × (passes w ≡ true)
@@ -56,36 +60,3 @@ module _ (limits : Limits) (arrives : Arrives) (g : TaskGraph) (s : Seats) (t : 
 
   pub choice_below : (w : ℕ) → choice limits arrives g s t ≡ Some w → w < limits.workers
   choice_below w e = (choice_in w e).0
-
-  -- the first two steps, at a level that is the t-level
-  pub step1_by : (level : ℕ) (o : Option ℕ) → level ≡ t_level_of arrives g s t → o ≡ best Smallest (near_by limits.memory level arrives g s t) (start_on_worker arrives g s t) limits.workers → step1 limits arrives g s t ≡ o
-  unfolding step1
-  step1_by level o e r = sym (r ∙ ap (λ (n : ℕ). best Smallest (near_by limits.memory n arrives g s t) (start_on_worker arrives g s t) limits.workers) e)
-
-  pub step2_by : (level : ℕ) (o : Option ℕ) → level ≡ t_level_of arrives g s t → o ≡ best Largest (spent_by limits.memory level g s t) (free g s) limits.workers → step2 limits arrives g s t ≡ o
-  unfolding step2
-  step2_by level o e r = sym (r ∙ ap (λ (n : ℕ). best Largest (spent_by limits.memory n g s t) (free g s) limits.workers) e)
-
-  pub step3_by : (o : Option ℕ) → o ≡ unopened g s limits.workers → step3 limits arrives g s t ≡ o
-  unfolding step3
-  step3_by o r = sym r
-
-  pub step4_by : (o : Option ℕ) → o ≡ best Smallest (roomy limits arrives g s t) (free g s) limits.workers → step4 limits arrives g s t ≡ o
-  unfolding step4
-  step4_by o r = sym r
-
-  -- the row of t, by the choice
-  abbrev pub seated : ℕ → ℕ → Result Row PlanFault
-  seated w start = Ok (record { worker = w; start = start })
-
-  pub seat_none : choice limits arrives g s t ≡ None → seat limits arrives g s t ≡ Err (NoneFits t)
-  unfolding seat
-  seat_none e = ap (seat_at limits arrives g s t) e
-
-  pub seat_in_time : (w : ℕ) → choice limits arrives g s t ≡ Some w → start_on_worker arrives g s t w + g.time t ≤ 2 ^ 40 → seat limits arrives g s t ≡ seated w (start_on_worker arrives g s t w)
-  unfolding seat
-  seat_in_time w e l = ap (seat_at limits arrives g s t) e ∙ cond-true _ _ _ (le-leb _ _ l)
-
-  pub seat_late : (w : ℕ) → choice limits arrives g s t ≡ Some w → 2 ^ 40 < start_on_worker arrives g s t w + g.time t → seat limits arrives g s t ≡ Err (TooLate t)
-  unfolding seat
-  seat_late w e l = ap (seat_at limits arrives g s t) e ∙ cond-false _ _ _ (lt-leb _ _ l)

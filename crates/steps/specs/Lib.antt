@@ -1,3 +1,4 @@
+pub mod Lanes
 pub mod Seats
 pub mod Steps
 pub mod Laws

@@ -4,3 +4,9 @@
 pub mod desk;
 
 pub use desk::Desk;
+
+// A graph has at most so many tasks.
+pub const TASKS: usize = 512;
+
+// There are at most so many workers.
+pub const WORKERS: usize = 16;

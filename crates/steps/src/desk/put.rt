@@ -4,7 +4,8 @@ ghost use Rattle.steps.specs.Desks.{graph_of};
 ghost use Rattle.steps.specs.Seats.{nobody, placeable, put as put_at};
 ghost use Rattle.steps.specs.Laws.{Placeable};
 
-use crate::desk::Desk;
+use crate::desk::{Desk, Lane};
+use crate::{TASKS, WORKERS};
 use graphs::Graph;
 use links::CEILING;
 use plans::Row;
@@ -17,25 +18,20 @@ impl<'a> Desk<'a> {
     {
         Desk {
             graph,
-            seats: [None; 512],
-            open: [false; 16],
-            free: [0; 16],
-            used: [0; 16],
+            seats: [None; TASKS],
+            lanes: [None; WORKERS],
         }
     }
 
     // Whether t may be placed at the row.
+    #[tactic(auto, unfolding(crate::specs::Seats::placeable))]
     fn may_place(&self, t: usize, row: Row) -> bool
         ensures { result ≡ placeable (graph_of self.now) self.now.seats t row }
     {
-        if t >= self.graph.tasks().len() {
-            return false;
-        }
-        if self.is_placed(t) {
-            return false;
-        }
-        let latest = CEILING - self.graph.time(t) as u64;
-        row.worker < 16 && row.start <= latest
+        t < self.graph.tasks().len()
+            && !self.is_placed(t)
+            && row.worker < WORKERS
+            && row.start <= CEILING - u64::from(self.graph.time(t))
     }
 
     fn put(&mut self, t: usize, row: Row)
@@ -45,17 +41,18 @@ impl<'a> Desk<'a> {
         ensures graph { self.new.graph.now ≡ self.old.graph.now }
     {
         let w = row.worker;
-        let end = row.start + self.graph.time(t) as u64;
-        let free = self.free[w].max(end);
-        let used = self.used[w] + self.graph.size(t) as u64;
+        let end = row.start + u64::from(self.graph.time(t));
+        let lane = Lane {
+            free: self.free(w).max(end),
+            used: self.used(w) + u64::from(self.graph.size(t)),
+        };
         self.seats[t] = Some(row);
-        self.open[w] = true;
-        self.free[w] = free;
-        self.used[w] = used;
+        self.lanes[w] = Some(lane);
     }
 
     // Places t at the row, and answers true, where t is a task that is not placed, the worker is below 16, and the
     // end is not above the ceiling. Else it answers false and places nothing.
+    // The bool answers as the `insert` of a set does: whether there is one more.
     pub fn place(&mut self, t: usize, row: Row) -> bool
         ensures is { result ≡ placeable (graph_of self.old) self.old.seats t row }
         ensures words { Decides result (Placeable (graph_of self.old) self.old.seats t row) }

@@ -1,5 +1,4 @@
-use Rattle.std.proofs.Common.{◌≡◌, ℕ, ◌-◌, ◌≤◌, List, length, take, refl, ap, arith, length-take, rules}
-use native.Mathlib.Nat.{sub-zero}
+use Rattle.std.proofs.Common.{◌≡◌, ℕ, ◌≤◌, List, length, take, refl, ap, arith, length-take, rules}
 use Rattle.graphs.specs.Graphs.{model_of}
 use Rattle.graphs.specs.Model.{TaskGraph}
 use Rattle.plans.specs.declared.types.Row.{Row}
@@ -12,11 +11,11 @@ use Rattle.planfiles.specs.Writing.{Writable, short, limit, rule1, rule2, buffer
 use Rattle.planfiles.proofs.Bytes.{plan_few}
 use Rattle.planfiles.proofs.write.lay_plan.Goals as goal
 
-pub returns-then-rows-lt512 : goal.returns-then-rows-lt512
-returns-then-rows-lt512 c = record { told = (short (omega arith), refl); few = c.tasks-tasks.ensures.sound.few }
+pub returns-then-rows-lt-MOST_TASKS : goal.returns-then-rows-lt-MOST_TASKS
+returns-then-rows-lt-MOST_TASKS c = record { told = (short (omega arith), refl); few = c.tasks-tasks.ensures.sound.few }
 
-pub returns-then-workers-lt1 : goal.returns-then-workers-lt1
-returns-then-workers-lt1 c = record { told = (limit (omega arith) (search rules), refl); few = c.tasks-tasks.ensures.sound.few }
+pub returns-then-not-contains : goal.returns-then-not-contains
+returns-then-not-contains c = record { told = (limit (omega arith) (search rules), refl); few = c.tasks-tasks.ensures.sound.few }
 
 pub returns-in-Some : goal.returns-in-Some
 returns-in-Some c = record { told = (rule1 _ (omega arith) (search rules) c.in-Some.ensures.found, refl); few = c.tasks-tasks.ensures.sound.few }
@@ -27,11 +26,11 @@ returns-in-Some-above_ceiling c =
 
 -- the plan that the writer was given, in the words of the contract
 module _ (g : TaskGraph) (rows : List Row) (n workers ticks : ℕ) (e : n ≡ g.tasks) (l : ticks ≡ latest (unlinked g rows 0 0)) (s : g.tasks ≤ 512) where
-  same-plan : plan_bytes (record { workers = workers; ticks = ticks; rows = take (n - 0) rows }) ≡ plan_file g rows workers
-  same-plan = rw (sub-zero, e, l)
+  same-plan : plan_bytes (record { workers = workers; ticks = ticks; rows = take n rows }) ≡ plan_file g rows workers
+  same-plan = rw (e, l)
 
   -- how many bytes it needs
-  needs-bytes : {xs ys : List ℕ} {k : ℕ} → Puts xs 0 (plan_bytes (record { workers = workers; ticks = ticks; rows = take (n - 0) rows })) ys k → k ≡ length (plan_file g rows workers)
+  needs-bytes : {xs ys : List ℕ} {k : ℕ} → Puts xs 0 (plan_bytes (record { workers = workers; ticks = ticks; rows = take n rows })) ys k → k ≡ length (plan_file g rows workers)
   needs-bytes p = puts_count (puts_same same-plan p) (omega (arith, plan_few (plan_of g rows workers), length-take g.tasks rows))
 
 pub returns-then-needed-out : goal.returns-then-needed-out

@@ -1,4 +1,5 @@
-use Rattle.std.proofs.Common.{◌≡◌, Bool, false, cond, not, ◌&&◌, get_or, set, Some, Ok, sym, refl, ap, ◌∙◌, subst}
+use Rattle.std.proofs.Common.{◌≡◌, Bool, false, cond, not, ◌&&◌, get_or, set, Some, Ok, sym, ap, ◌∙◌, subst}
+use Rattle.std.proofs.lemmas.Result.{err_from_is_err_and}
 use Rattle.graphs.specs.declared.graph.Graph.{Graph}
 use Rattle.graphs.specs.Graphs.{model_of}
 use Rattle.graphs.specs.Model.{TaskGraph}
@@ -19,9 +20,9 @@ admit-requires g c =
     let go = c.requires.going in
     let k = c.pop.new.self in
     let x = c.in-Some.first in
-    let gave = c.in-Some.ensures.popped go.lined.kept in
-    let sat = c.in-Ok.ensures.is go.workers in
-    let row = c.in-Ok.row in
+    let gave = c.in-Some.ensures.popped in
+    let sat = c.in_ok-row.ensures.is go.workers in
+    let row = c.in_ok-row.row in
     let s' : Seats = set d.seats x.task (Some row) in
     let same_graph : model_of c.place.new.self.graph.now ≡ m = ap model_of c.place.ensures.graph in
     let same-seats : c.place.new.self.seats ≡ s' = c.place.ensures.seats ∙ ap (λ (b : Bool). cond b s' d.seats) (c.place.ensures.is ∙ may_place_lem p.limits p.policy a m d.seats c.args.queue.now go k x gave row sat) in
@@ -35,34 +36,29 @@ admit-requires g c =
           (subst (λ (z : Seats). Waiting (λ v. ready m z v && not (get_or marks v false)) (rank p.policy a m z) m.tasks k) (sym same-seats) waits);
     }
 
-pub returns-in-None : goal.returns-in-None
-returns-in-None g c =
+pub returns-in_default-clause-turn : goal.returns-in_default-clause-turn
+returns-in_default-clause-turn g c =
     let p = c.args.planner.now in
     let d = c.args.desk.now in
     let a : Arrives = g.L.Link.arrives p.link.now in
     let m : TaskGraph = model_of d.graph.now in
     let go = c.requires.going in
-    let none = c.in-None.ensures.popped go.lined.kept in
-    record {
-      graph = refl;
-      turn = (turn_ends p.limits p.policy a m d.seats c.args.queue.now go none.1, subst (Going p.limits p.policy a m d.seats) (sym none.2) go);
-    }
+    let none = c.in_default.ensures.popped in
+    (turn_ends p.limits p.policy a m d.seats c.args.queue.now go none.1, subst (Going p.limits p.policy a m d.seats) (sym none.2) go)
 
-pub returns-in-Err : goal.returns-in-Err
-returns-in-Err g c =
+pub returns-in_err-row-clause-turn : goal.returns-in_err-row-clause-turn
+returns-in_err-row-clause-turn g c =
     let p = c.args.planner.now in
     let d = c.args.desk.now in
     let a : Arrives = g.L.Link.arrives p.link.now in
     let m : TaskGraph = model_of d.graph.now in
     let go = c.requires.going in
-    let gave = c.in-Some.ensures.popped go.lined.kept in
-    record {
-      graph = refl;
-      turn = turn_denied p.limits p.policy a m d.seats c.args.queue.now go c.pop.new.self c.in-Some.first gave c.in-Err.fault (c.in-Err.ensures.is go.workers);
-    }
+    let gave = c.in-Some.ensures.popped in
+    let e = err_from_is_err_and c.from_residual.result c.from_residual.ensures.1 in
+    rw (e.1, e.2) (turn_denied p.limits p.policy a m d.seats c.args.queue.now go c.pop.new.self c.in-Some.first gave c.in_err-row.field-0.0 (c.in_err-row.ensures.is go.workers))
 
-pub returns-in-Ok : goal.returns-in-Ok
-returns-in-Ok g c =
+pub returns-clause-turn : goal.returns-clause-turn
+returns-clause-turn g c =
     let p = c.args.planner.now in
     let d = c.args.desk.now in
     let a : Arrives = g.L.Link.arrives p.link.now in
@@ -71,20 +67,16 @@ returns-in-Ok g c =
     let h = c.args.queue.now in
     let k = c.pop.new.self in
     let x = c.in-Some.first in
-    let gave = c.in-Some.ensures.popped go.lined.kept in
-    let sat = c.in-Ok.ensures.is go.workers in
-    let row = c.in-Ok.row in
+    let gave = c.in-Some.ensures.popped in
+    let sat = c.in_ok-row.ensures.is go.workers in
+    let row = c.in_ok-row.row in
     let s' : Seats = set d.seats x.task (Some row) in
     let same_graph : model_of c.place.new.self.graph.now ≡ m = ap model_of c.place.ensures.graph in
     let same-seats : c.place.new.self.seats ≡ s' = c.place.ensures.seats ∙ ap (λ (b : Bool). cond b s' d.seats) (c.place.ensures.is ∙ may_place_lem p.limits p.policy a m d.seats h go k x gave row sat) in
     let q = c.admit.new.queue in
     let lined : Waiting (ready m s') (rank p.policy a m s') m.tasks q =
     subst (λ (z : Seats). Waiting (ready m z) (rank p.policy a m z) m.tasks q) same-seats
-    (subst (λ (y : TaskGraph). Waiting (ready y c.place.new.self.seats) (rank p.policy a y c.place.new.self.seats) y.tasks q) same_graph c.admit.ensures) in
-    record {
-      graph = c.place.ensures.graph;
-      turn = (
-        turn_places p.limits p.policy a m d.seats h go k x gave row sat ∙ ap Ok (sym same-seats),
-        subst (λ (z : Seats). Going p.limits p.policy a m z q) (sym same-seats) (going_on p.limits p.policy a m d.seats h go k x gave row sat q lined),
-      );
-    }
+    (subst (λ (y : TaskGraph). Waiting (ready y c.place.new.self.seats) (rank p.policy a y c.place.new.self.seats) y.tasks q) same_graph c.admit.ensures) in (
+      turn_places p.limits p.policy a m d.seats h go k x gave row sat ∙ ap Ok (sym same-seats),
+      subst (λ (z : Seats). Going p.limits p.policy a m z q) (sym same-seats) (going_on p.limits p.policy a m d.seats h go k x gave row sat q lined),
+    )

@@ -1,6 +1,7 @@
 use Rattle.std.proofs.Common.{◌≡◌, ℕ, ◌+◌, true, false, not, ◌&&◌, length, get_or, replicate, Ok, Err, sym, refl, ap, ◌∙◌, subst, arith}
 use Rattle.std.proofs.lemmas.List.{get_or-replicate}
 use Rattle.std.proofs.lemmas.Bool.{and_right}
+use Rattle.std.proofs.lemmas.Result.{err_from_is_err_and}
 use Rattle.graphs.specs.declared.graph.Graph.{Graph}
 use Rattle.graphs.specs.Graphs.{model_of, tasks_of}
 use Rattle.graphs.specs.Model.{TaskGraph}
@@ -26,11 +27,11 @@ admit-requires g c =
       levels = c.requires.levels;
       waiting = waiting_same (λ _. false) (λ v. ready m d.seats v && not (get_or (replicate 512 true) v false)) key key m.tasks c.args.queue.now
           (λ v l. sym (and_right _ _ (ap not (get_or-replicate 512 v true false (omega arith))))) (λ v l y. refl)
-          (waiting_none (λ _. false) key m.tasks c.args.queue.now (λ _. refl) q.0 (omega (arith, q.2)) q.1);
+          (waiting_none (λ _. false) key m.tasks c.args.queue.now (λ _. refl) (omega (arith, q.1)) q.0);
     }
 
-pub loop-i-init : goal.loop-i-init
-loop-i-init g c =
+pub loop-turn-init : goal.loop-turn-init
+loop-turn-init g c =
     let p = c.args.planner.now in
     let d = c.args.desk.now in
     let a : Arrives = g.L.Link.arrives p.link.now in
@@ -46,32 +47,30 @@ loop-i-init g c =
       },
     )
 
-pub returns-in-Err : goal.returns-in-Err
-returns-in-Err g c =
+pub returns-in_err-advance-clause-after : goal.returns-in_err-advance-clause-after
+returns-in_err-advance-clause-after g c =
     let p = c.args.planner.now in
     let a : Arrives = g.L.Link.arrives p.link.now in
     let m : TaskGraph = model_of c.args.desk.now.graph.now in
-    let inv = c.loop-i.invariant in
-    let s = c.loop-i.desk.seats in
-    let e = c.in-Err.fault in
+    let inv = c.loop-turn.invariant in
+    let s = c.loop-turn.desk.seats in
+    let e = c.in_err-advance.field-0.0 in
     let n : m.tasks ≡ length c.tasks-tasks.result.now = ap length (sym (c.tasks-tasks.ensures.is ∙ ap tasks_of c.graph.ensures)) in
-    let t : turn p.limits p.policy a m s ≡ Err e = subst (λ (y : Graph). turn p.limits p.policy a (model_of y) s ≡ Err e) inv.0 c.in-Err.ensures.turn in
-    record {
-      graph = c.advance.ensures.graph ∙ inv.0;
-      after = after_denied p.limits p.policy a m (c.loop-i.i + 1) m.tasks e (after_more p.limits p.policy a m c.loop-i.i s (Err e) inv.1 t) (omega arith);
-    }
+    let t : turn p.limits p.policy a m s ≡ Err e = subst (λ (y : Graph). turn p.limits p.policy a (model_of y) s ≡ Err e) inv.0 c.in_err-advance.ensures.turn in
+    let was = err_from_is_err_and c.from_residual.result c.from_residual.ensures.1 in
+    rw (was.1, was.2) (after_denied p.limits p.policy a m (c.loop-turn.turn + 1) m.tasks e (after_more p.limits p.policy a m c.loop-turn.turn s (Err e) inv.1 t) (omega arith))
 
-pub loop-i-preserved : goal.loop-i-preserved
-loop-i-preserved g c =
+pub loop-turn-preserved : goal.loop-turn-preserved
+loop-turn-preserved g c =
     let p = c.args.planner.now in
     let a : Arrives = g.L.Link.arrives p.link.now in
     let m : TaskGraph = model_of c.args.desk.now.graph.now in
-    let inv = c.loop-i.invariant in
-    let s = c.loop-i.desk.seats in
+    let inv = c.loop-turn.invariant in
+    let s = c.loop-turn.desk.seats in
     let s' = c.advance.new.desk.seats in
-    let both = c.in_default.ensures.turn in
+    let both = c.in_ok-advance.ensures.turn in
     let t : turn p.limits p.policy a m s ≡ Ok s' = subst (λ (y : Graph). turn p.limits p.policy a (model_of y) s ≡ Ok s') inv.0 both.0 in (
       c.advance.ensures.graph ∙ inv.0,
-      after_more p.limits p.policy a m c.loop-i.i s (Ok s') inv.1 t,
+      after_more p.limits p.policy a m c.loop-turn.turn s (Ok s') inv.1 t,
       subst (λ (y : Graph). Going p.limits p.policy a (model_of y) s' c.advance.new.queue) inv.0 both.1,
     )

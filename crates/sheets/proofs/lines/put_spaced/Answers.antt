@@ -1,10 +1,10 @@
 use Rattle.std.proofs.Common.{arith, lit<}
 use Rattle.std.proofs.lemmas.Fmt.{length-decimal-le}
-use Rattle.numbers.proofs.Texts.{puts_next}
+use Rattle.numbers.proofs.Writers.{writes_next}
 use Rattle.sheets.proofs.lines.put_spaced.Goals as goal
 
 pub returns : goal.returns
 returns c = record {
-  puts = puts_next (omega arith) c.put_decimal-at.ensures c.put.ensures;
+  writes = writes_next (omega arith) c.put_decimal.ensures c.put.ensures;
   short = length-decimal-le 20 c.args.value (lit< tt) (omega arith) (omega arith);
 }

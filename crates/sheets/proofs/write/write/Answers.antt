@@ -7,8 +7,8 @@ use Rattle.sheets.specs.Sheets.{sheet_text}
 use Rattle.sheets.specs.Answers.{short, unchecked, full}
 use Rattle.sheets.proofs.write.write.Goals as goal
 
-pub returns-then-lines-lt512 : goal.returns-then-lines-lt512
-returns-then-lines-lt512 g c = record { table = (refl, λ e q. refl); written = (short (omega arith), refl) }
+pub returns-then-lines-lt-MOST_TASKS : goal.returns-then-lines-lt-MOST_TASKS
+returns-then-lines-lt-MOST_TASKS g c = record { table = (refl, λ e q. refl); written = (short (omega arith), refl) }
 
 pub returns-in_err-check : goal.returns-in_err-check
 returns-in_err-check g c =

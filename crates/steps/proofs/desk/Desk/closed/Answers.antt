@@ -1,9 +1,8 @@
-use Rattle.std.proofs.Common.{◌≡◌, ℕ, Bool, true, false, not, ◌||◌, List, length, get_or, sym, ap, ◌∙◌, arith, below_more}
-use Rattle.std.proofs.lemmas.List.{take_all}
-use Rattle.std.proofs.lemmas.Bool.{and_from, or_from, or_right, not_from_true}
+use Rattle.std.proofs.Common.{ℕ, Bool, false, not, ◌||◌, List, length, get_or, sym, ap, ◌∙◌, arith}
+use Rattle.std.proofs.lemmas.Bool.{or_from, not_from_true}
 use Rattle.scans.specs.Scans.{every_in}
 use Rattle.scans.proofs.Scans.{every_all, every_not}
-use Rattle.scans.proofs.Lists.{every_in_more, every_in_not}
+use Rattle.scans.proofs.Lists.{every_in_not}
 use Rattle.edges.specs.declared.edge.Edge.{Edge}
 use Rattle.edges.specs.Edges.{no_edge, out_of}
 use Rattle.graphs.specs.Graphs.{tasks_of, edges_of}
@@ -18,17 +17,6 @@ settles s marks e = placed s e.to || get_or marks e.to false
 
 abbrev shuts : Seats → List Bool → ℕ → List Edge → ℕ → Bool
 shuts s marks w es u = not (sits (at s u) w) || every_in (settles s marks) (out_of es u)
-
-pub loop-e-preserved : goal.loop-e-preserved
-loop-e-preserved c =
-    let s = c.args.self.now in
-    (c.loop-e.invariant.0, every_in_more (settles s.seats c.args.marks.now) c.outputs-outs.result.now c.loop-e.e-index no_edge (omega arith) ∙ and_from _ _ c.loop-e.invariant.1 (sym c.is_settled.ensures ∙ c.if-not-is_settled.false))
-
-pub search-preserved : goal.search-preserved
-search-preserved c =
-    let s = c.args.self.now in
-    let all = ap (every_in (settles s.seats c.args.marks.now)) (sym (take_all c.loop-e.e-index c.outputs-outs.result.now (omega arith) ∙ c.outputs-outs.ensures.is)) ∙ c.loop-e.invariant.1 in
-    (c.loop-e.invariant.0, below_more (λ u. shuts s.seats c.args.marks.now c.args.w (edges_of s.graph.now) u ≡ true) c.search.u c.search.invariant.1 (or_right _ _ all))
 
 pub returns-after-search : goal.returns-after-search
 returns-after-search c = λ t marked.

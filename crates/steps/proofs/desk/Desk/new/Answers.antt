@@ -1,7 +1,7 @@
-use Rattle.std.proofs.Common.{false, sym, refl, ◌∙◌}
-use Rattle.std.proofs.lemmas.List.{get_or-replicate}
+use Rattle.std.proofs.Common.{is_some, sym, refl, ap, ◌∙◌}
 use Rattle.graphs.specs.Graphs.{model_of}
-use Rattle.steps.proofs.Places.{early_none, open_none, free_none, in_use_none}
+use Rattle.steps.specs.Lanes.{free_in, used_in}
+use Rattle.steps.proofs.Places.{early_none, lane_none, open_none, free_none, in_use_none}
 use Rattle.steps.proofs.desk.Desk.new.Goals as goal
 
 pub invariant_of-result : goal.invariant_of-result
@@ -9,9 +9,9 @@ invariant_of-result c =
     let g = model_of c.args.graph.now in
     record {
       sized = refl;
-      wide = (refl, refl, refl);
+      wide = refl;
       early = early_none g;
-      opens = λ w l. get_or-replicate 16 w false false l ∙ sym (open_none g w);
-      frees = λ w l. get_or-replicate 16 w 0 0 l ∙ sym (free_none g w);
-      uses = λ w l. get_or-replicate 16 w 0 0 l ∙ sym (in_use_none g w);
+      opens = λ w. ap is_some (lane_none w) ∙ sym (open_none g w);
+      frees = λ w. ap free_in (lane_none w) ∙ sym (free_none g w);
+      uses = λ w. ap used_in (lane_none w) ∙ sym (in_use_none g w);
     }
