@@ -19,8 +19,8 @@ fn show(rt: &HostRuntime, what: &str, file: &[u8]) -> io::Result<()> {
 fn changed(bytes: &[(usize, u8)]) -> [u8; 62] {
     let mut file = HILLSIDE;
     for (at, byte) in bytes {
-        if *at < 62 {
-            file[*at] = *byte;
+        if let Some(place) = file.get_mut(*at) {
+            *place = *byte;
         }
     }
     file

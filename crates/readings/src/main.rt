@@ -1,19 +1,11 @@
 // Reads graph files at the edges of their limits, and tells of each how many tasks and edges it has, or why it is refused.
 #![tactic(auto)]
 
-use faults::{Fault, Refusal};
+use faults::Refusal;
 use graphs::{Graph, name_of};
 use std::alloc::{AllocError, Global};
 use std::io;
 use std::io::Write;
-
-fn tell(rt: &HostRuntime, fault: Fault) -> io::Result<()> {
-    let number = fault.number;
-    let layer = fault.layer;
-    let place = fault.place;
-    let record = fault.record;
-    println!(rt; "denied {number} {layer} {place} {record}")
-}
 
 fn read(rt: &HostRuntime, what: &str, file: &[u8]) -> io::Result<()> {
     print!(rt; "{what}: ")?;
@@ -24,7 +16,10 @@ fn read(rt: &HostRuntime, what: &str, file: &[u8]) -> io::Result<()> {
             let edges = graph.edges().len();
             println!(rt; "{tasks} tasks, {edges} edges")
         }
-        Err(fault) => tell(rt, fault.fault()),
+        Err(fault) => {
+            let fault = fault.fault();
+            println!(rt; "denied {fault}")
+        }
     }
 }
 
@@ -36,7 +31,10 @@ fn name(rt: &HostRuntime, file: &[u8], task: usize) -> io::Result<()> {
             rt.stdout().write_all(text)?;
             println!(rt; "")
         }
-        Err(fault) => tell(rt, fault.fault()),
+        Err(fault) => {
+            let fault = fault.fault();
+            println!(rt; "denied {fault}")
+        }
     }
 }
 
@@ -71,22 +69,27 @@ fn put(file: &mut Vec<u8>, value: usize) -> Result<(), AllocError> {
     Ok(())
 }
 
-// A file of 512 tasks and 4,096 edges, each to one of the nine tasks after its own.
+// Appends an edge of amount 1.
+fn put_edge(file: &mut Vec<u8>, from: usize, to: usize) -> Result<(), AllocError> {
+    put(file, from)?;
+    put(file, to)?;
+    file.push(1)?;
+    Ok(())
+}
+
+// A file of 512 tasks and 4,096 edges: 4,060 to the eight tasks after their own, and 36 to the ninth.
 fn full(heap: Global) -> Result<Vec<u8>, AllocError> {
     let mut file = [1u8, 128, 4, 128, 32].to_vec(heap)?;
-    for t in 0..512 {
+    for _ in 0..512 {
         file.extend_from_slice(&[1, 97, 1, 0])?;
     }
-    let mut left = 4096usize;
-    for step in 1..10usize {
+    for step in 1..9usize {
         for from in 0..512 - step {
-            if left > 0 {
-                put(&mut file, from)?;
-                put(&mut file, from + step)?;
-                file.push(1)?;
-                left -= 1;
-            }
+            put_edge(&mut file, from, from + step)?;
         }
+    }
+    for from in 0..36usize {
+        put_edge(&mut file, from, from + 9)?;
     }
     Ok(file)
 }

@@ -7,14 +7,14 @@ use plans::PlanFault;
 use std::alloc::AllocError;
 
 // When a done task began and ended.
-#[derive(Clone, Copy)]
+#[derive(Clone, Copy, PartialEq, Eq, Debug)]
 pub struct Span {
     pub begin: u64,
     pub end: u64,
 }
 
 // Why a run refuses a call.
-#[derive(Clone, Copy)]
+#[derive(Clone, Copy, PartialEq, Eq, Debug)]
 pub enum RunFault {
     // there is no such worker
     NoWorker { worker: usize },
@@ -46,9 +46,9 @@ impl Refusal for RunFault {
 }
 
 // Why a run was not opened: the check refuses the plan, or memory is short.
-#[derive(Clone, Copy)]
+#[derive(Clone, Copy, PartialEq, Eq, Debug)]
 pub enum OpenFault {
-    Refused { fault: PlanFault },
+    Refused(PlanFault),
     Memory,
 }
 
@@ -56,7 +56,7 @@ impl From<PlanFault> for OpenFault {
     ghost from_gives = { λ e r. r ≡ Refused e };
 
     fn from(fault: PlanFault) -> OpenFault {
-        OpenFault::Refused { fault }
+        OpenFault::Refused(fault)
     }
 }
 
@@ -73,7 +73,7 @@ impl Refusal for OpenFault {
 
     fn fault(&self) -> Fault {
         match *self {
-            OpenFault::Refused { fault } => fault.fault(),
+            OpenFault::Refused(fault) => fault.fault(),
             OpenFault::Memory => Fault {
                 number: 0,
                 layer: 5,
@@ -85,7 +85,7 @@ impl Refusal for OpenFault {
 }
 
 // A call that a loader makes of an opened run.
-#[derive(Clone, Copy)]
+#[derive(Clone, Copy, PartialEq, Eq, Debug)]
 pub enum Call {
     // which task does the worker begin, and when?
     Next { worker: usize },
@@ -94,7 +94,7 @@ pub enum Call {
 }
 
 // A line of a loader's log: a call with its answer.
-#[derive(Clone, Copy)]
+#[derive(Clone, Copy, PartialEq, Eq, Debug)]
 pub enum Line {
     Opened,
     Asked {

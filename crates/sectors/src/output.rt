@@ -1,9 +1,10 @@
 // What the sheet's program prints: one call makes all of it from the bytes of a graph file.
-use faults::{Fault, Refusal};
+use crate::fault::SheetFault;
+use faults::Fault;
 use graphs::Graph;
-use graphs::fault::GraphFault;
 use heaps::{Line, Ready};
 use links::Rate;
+use numbers::Writer;
 use planner::Planner;
 use plans::{Limits, PlanFault, Row};
 use sheets::{put_denial, sheet};
@@ -23,52 +24,50 @@ const LONGEST: usize = 32768;
 // The line that tells a denial.
 fn denial(heap: Global, fault: Fault) -> Result<Vec<u8>, AllocError> {
     let mut out = vec![in heap; 0u8; 96]?;
-    let len = put_denial(&mut out, 0, fault);
+    let mut writer = Writer::new(&mut out);
+    put_denial(&mut writer, fault);
+    let len = writer.at();
     out.truncate(len);
     Ok(out)
 }
 
+// The line of a fault; want of memory has none.
+fn tell(heap: Global, fault: SheetFault) -> Result<Vec<u8>, AllocError> {
+    match fault {
+        SheetFault::Denied(fault) => denial(heap, fault),
+        SheetFault::Memory => Err(AllocError),
+    }
+}
+
 // Plans the graph and writes its sheet to `out`.
 fn plan_and_show(graph: &Graph, out: &mut [u8]) -> Result<usize, PlanFault> {
-    let link = match Rate::new(1, 1) {
-        Ok(rate) => rate,
-        Err(_) => unreachable(),
+    let Ok(link) = Rate::new(1, 1) else {
+        unreachable()
     };
     let planner = Planner {
         limits: LIMITS,
         policy: POLICY,
         link: &link,
     };
-    let mut rows = [Row {
-        worker: 0,
-        start: 0,
-    }; 512];
+    let mut rows = [Row::default(); 512];
     let mut levels = [0u64; 512];
-    let mut queue = [Ready { rank: 0, task: 0 }; 512];
-    let mut lines = [Line {
-        start: 0,
-        worker: 0,
-        task: 0,
-    }; 512];
+    let mut queue = [Ready::default(); 512];
+    let mut lines = [Line::default(); 512];
     let _ = planner.plan(graph, &mut rows, &mut levels, &mut queue)?;
     sheet(graph, &rows, LIMITS, &link, &mut lines, out)
 }
 
+// The sheet of the plan of the graph in `file`.
+fn sheet_or_fault(heap: Global, file: &[u8]) -> Result<Vec<u8>, SheetFault> {
+    let mut graph = Graph::new(heap);
+    graph.read(heap, file)?;
+    let mut out = vec![in heap; 0u8; LONGEST]?;
+    let len = plan_and_show(&graph, &mut out)?;
+    out.truncate(len);
+    Ok(out)
+}
+
 // The sheet of the plan of the graph in `file`, or the line of the denial.
 pub fn sheet_of(heap: Global, file: &[u8]) -> Result<Vec<u8>, AllocError> {
-    let mut graph = Graph::new(heap);
-    if let Err(fault) = graph.read(heap, file) {
-        return match fault {
-            GraphFault::Memory => Err(AllocError),
-            other => denial(heap, other.fault()),
-        };
-    }
-    let mut out = vec![in heap; 0u8; LONGEST]?;
-    match plan_and_show(&graph, &mut out) {
-        Ok(len) => {
-            out.truncate(len);
-            Ok(out)
-        }
-        Err(fault) => denial(heap, fault.fault()),
-    }
+    sheet_or_fault(heap, file).or_else(|fault| tell(heap, fault))
 }
