@@ -36,7 +36,7 @@ impl<'a> Writer<'a> {
         self.at
     }
 
-    // Writes a byte, if the slice goes so far.
+    // Writes a byte, if the slice goes so far. `get_mut` would be no plainer, and the check does not prove it alone.
     pub fn put(&mut self, byte: u8)
         ensures { Writes self.old (byte ∷ []) self.new }
     {

@@ -8,7 +8,7 @@ use crate::search::Search;
 use edges::EdgeTable;
 use std::alloc::{AllocError, Global};
 
-// The tasks one after another, and the place of each among them.
+// The tasks one after another, and the place of each among them. Two lists, since each is lent as it is.
 #[derive(Drop)]
 pub struct Order {
     pub order: Vec<usize>,

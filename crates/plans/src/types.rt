@@ -25,7 +25,8 @@ pub struct Limits {
 }
 
 impl Limits {
-    // The lowest position that is outside its own limits: 1 is the number of workers, 2 the memory.
+    // The lowest position that is outside its own limits: 1 is the number of workers, 2 the memory. Like every search it answers what it found; the
+    // caller says which refusal that is.
     pub fn outside(&self) -> Option<usize>
         ensures { result ≡ bad_limit self.now.workers self.now.memory }
     {
