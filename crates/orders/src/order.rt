@@ -8,7 +8,8 @@ use crate::search::Search;
 use edges::EdgeTable;
 use std::alloc::{AllocError, Global};
 
-// The tasks one after another, and the place of each among them. Two lists, since each is lent as it is.
+// The tasks one after another, and the place of each among them. Two lists: the order is lent as it is, and the
+// places stand as the proof that each edge goes forward.
 #[derive(Drop)]
 pub struct Order {
     pub order: Vec<usize>,
