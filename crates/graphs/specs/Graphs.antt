@@ -1,5 +1,5 @@
 -- What a graph holds.
-use Rattle.std.specs.Prelude.{ℕ, List, map, vec_items}
+use Rattle.std.specs.Prelude.{ℕ, List, map, take, vec_items}
 use Rattle.edges.specs.declared.edge.Edge.{Edge}
 use Rattle.graphs.specs.declared.types.Task.{Task}
 use Rattle.graphs.specs.declared.types.Name.{Name}
@@ -22,7 +22,7 @@ model_of g = model (tasks_of g) (edges_of g)
 
 -- the bytes of a name
 abbrev pub spelled : Name → List ℕ
-spelled n = vec_items n.bytes
+spelled n = take n.len n.bytes
 
 abbrev pub parts_of : Graph → Parts
 parts_of g = parts_over (tasks_of g) (map spelled (names_of g)) (edges_of g)

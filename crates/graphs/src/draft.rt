@@ -44,9 +44,8 @@ impl Draft {
         requires { (1 ≤ length name.now) × (length name.now ≤ 31) }
         ensures { MatchResult result (λ _. drafted self.new ≡ with_task (drafted self.old) task name.now) (λ e. e ≡ Memory) }
     {
-        let name = Name::new(*self.names.allocator(), name)?;
         self.tasks.push(task)?;
-        self.names.push(name)?;
+        self.names.push(Name::new(name))?;
         Ok(())
     }
 
@@ -55,11 +54,12 @@ impl Draft {
         requires { (edge.from < 512) × (edge.to < 512) }
         ensures { Adds (added (edge_item edge.from edge.to edge.amount) at (drafted self.old)) result self.new }
     {
-        // before the pair, so that the pairs are those of the edges also where there is no memory
-        self.edges.push(edge)?;
-        if self.pairs.insert(edge.from, edge.to) {
+        // a repeated pair is told before want of memory, and the pair goes in after its edge, so that the pairs are those of the edges
+        if self.pairs.has(edge.from, edge.to) {
             return Err(GraphFault::Repeated { place: at });
         }
+        self.edges.push(edge)?;
+        let _ = self.pairs.insert(edge.from, edge.to);
         Ok(())
     }
 

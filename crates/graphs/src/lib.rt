@@ -22,6 +22,19 @@ mod tests {
     const FILE: &[u8] = b"\x01\x01\x00\x06ground\x04\x1e";
 
     #[test]
+    fn copies_a_name(rt: HostRuntime) -> Result<(), Fail> {
+        let mut graph = Graph::new(rt.alloc());
+        graph.read(rt.alloc(), FILE)?;
+        let names = graph.names().to_vec(rt.alloc())?;
+        for name in &names {
+            let Name { bytes, len } = *name;
+            assert_eq!(rt; &bytes[..len], b"ground".as_slice());
+        }
+        assert_eq!(rt; names.len(), 1);
+        Ok(())
+    }
+
+    #[test]
     fn clones_a_name(rt: HostRuntime) -> Result<(), Fail> {
         let mut graph = Graph::new(rt.alloc());
         graph.read(rt.alloc(), FILE)?;

@@ -1,4 +1,4 @@
-ghost use Rattle.std.specs.Prelude.{◌≤◌, length, vec_items as items};
+ghost use Rattle.std.specs.Prelude.{◌≡◌, ◌≤◌, length};
 
 mod names;
 
@@ -9,9 +9,11 @@ pub struct Task {
     pub size: u32,
 }
 
-// A task's name.
-#[derive(Drop)]
+// A task's name: the first `len` bytes. They stand in the name itself, so that it can be copied and needs no memory of its own.
+#[derive(Copy)]
 pub struct Name {
-    bytes: Vec<u8>,
-    ghost short: { (1 ≤ length (items bytes)) × (length (items bytes) ≤ 31) },
+    pub bytes: [u8; 31],
+    pub len: usize,
+    ghost room: { length bytes ≡ 31 },
+    ghost short: { (1 ≤ len) × (len ≤ 31) },
 }

@@ -1,17 +1,19 @@
-ghost use Rattle.std.specs.Prelude.{◌≡◌, ◌≤◌, length, IfOk};
+ghost use Rattle.std.specs.Prelude.{◌≡◌, ◌≤◌, length};
 ghost use Rattle.graphs.specs.Graphs.{spelled};
 
 use crate::types::Name;
-use std::alloc::{AllocError, Global};
+use std::alloc::AllocError;
 
 impl Name {
     // A name with these bytes.
-    pub(crate) fn new(heap: Global, bytes: &[u8]) -> Result<Name, AllocError>
-        requires { (1 ≤ length bytes.now) × (length bytes.now ≤ 31) }
-        ensures { IfOk result (λ n. spelled n ≡ bytes.now) }
+    pub(crate) fn new(text: &[u8]) -> Name
+        requires { (1 ≤ length text.now) × (length text.now ≤ 31) }
+        ensures { spelled result ≡ text.now }
     {
-        let bytes = Vec::from_slice(heap, bytes)?;
-        Ok(Name { bytes })
+        let len = text.len();
+        let mut bytes = [0u8; 31];
+        bytes[..len].copy_from_slice(text);
+        Name { bytes, len }
     }
 
     // The bytes of the name, 1 to 31 of them.
@@ -19,16 +21,19 @@ impl Name {
         ensures is { result.now ≡ spelled self.now }
         ensures short { (1 ≤ length result.now) × (length result.now ≤ 31) }
     {
-        self.bytes.as_slice()
+        &self.bytes[..self.len]
     }
 }
 
-// A clone has the same bytes. It is written out, since no clone is derived for a struct with a ghost field.
+// A clone is the same name. It is written out, so that an edit can change it and has to be refused.
 impl Clone for Name {
-    ghost is_clone = { λ n m. spelled m ≡ spelled n };
+    ghost is_clone = { λ n m. m ≡ n };
 
     fn clone(&self) -> Result<Name, AllocError> {
-        let bytes = self.bytes.clone()?;
-        Ok(Name { bytes })
+        let bytes = self.bytes;
+        Ok(Name {
+            bytes,
+            len: self.len,
+        })
     }
 }

@@ -3,7 +3,7 @@ ghost use Rattle.orders.specs.Inputs.{FewInputs};
 ghost use Rattle.orders.specs.PairSets.{held, Reads};
 
 use crate::pairs::PairSet;
-use crate::pairs::marks::mark;
+use crate::pairs::marks::{is_marked, mark};
 use std::alloc::{AllocError, Global};
 
 impl PairSet {
@@ -13,6 +13,13 @@ impl PairSet {
     {
         let words = vec![in heap; 0u64; 4096]?;
         Ok(PairSet { words })
+    }
+
+    // Whether a pair is in. A pair with a number of 512 or more is never in.
+    pub fn has(&self, from: usize, to: usize) -> bool
+        ensures { result ≡ held self.now from to }
+    {
+        from < 512 && to < 512 && is_marked(&self.words, from * 512 + to)
     }
 
     // Puts a pair in, and answers whether it was in. A pair with a number of 512 or more is never in.
