@@ -1,7 +1,7 @@
 // Links: when does an amount that leaves one worker at a tick reach another worker?
 #![tactic(auto)]
 
-ghost use Rattle.std.specs.Prelude.{◌≡◌, ◌+◌};
+ghost use Rattle.std.specs.Prelude.{◌≡◌, ◌+◌, ◌^◌, ◌<◌};
 ghost use Rattle.links.specs.Links.{Arrives, Lawful, capped};
 
 mod any;
@@ -26,9 +26,10 @@ pub(crate) const LONGEST_WAIT: u64 = 1 << 20;
 
 // The tick that is a wait after another: a tick above the ceiling, given or answered, counts as the ceiling.
 pub(crate) fn later(tick: u64, wait: u64) -> u64
+    requires { wait < 2 ^ 62 }
     ensures { result ≡ capped (capped tick + wait) }
 {
-    tick.min(CEILING).saturating_add(wait).min(CEILING)
+    (tick.min(CEILING) + wait).min(CEILING)
 }
 
 // A link answers every question by its meaning, `arrives`, which keeps the laws of links; asking changes nothing.

@@ -27,8 +27,8 @@ impl Handling {
 
 #[derive(Clone, Copy, Drop)]
 pub struct Packing<L> {
-    pub(crate) handling: Handling,
-    pub(crate) below: L,
+    pub handling: Handling,
+    pub below: L,
 }
 
 impl<L: Drop> Packing<L> {

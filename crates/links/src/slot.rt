@@ -33,8 +33,8 @@ impl Period {
 
 #[derive(Clone, Copy, Drop)]
 pub struct Slot<L> {
-    pub(crate) period: Period,
-    pub(crate) below: L,
+    pub period: Period,
+    pub below: L,
 }
 
 impl<L: Drop> Slot<L> {
